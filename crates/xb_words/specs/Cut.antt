@@ -1,0 +1,49 @@
+-- Items that stand one after another: messages of a stream, prefixes, attributes, segments, parameters, lines.
+-- A `size` says of a list how many octets the item at its front has, and None where no whole item stands there.
+use Rattle.std.specs.Prelude.{◌≡◌, ℕ, zero, suc, ◌+◌, ◌<◌, ◌≤◌, List, [], ◌∷◌, ◌++◌, length, take, drop, Option, Some, None}
+
+-- the items, each with all its octets, and what is left behind the last of them
+pub record Pieces : Type 0 where
+  pub items : List (List ℕ)
+  pub rest : List ℕ
+
+abbrev pub after_item : List ℕ → Pieces → Pieces
+after_item x p = record { items = x ∷ p.items; rest = p.rest }
+
+-- at most that many items
+abbrev pub cut_turns : (List ℕ → Option ℕ) → ℕ → List ℕ → Pieces
+cut_turns size zero s = record { items = []; rest = s }
+cut_turns size (suc turns) s =
+    elim (size s) [
+      | None ↦ record { items = []; rest = s }
+      | Some n ↦ after_item (take n s) (cut_turns size turns (drop n s))
+    ]
+
+-- all items from the front on, as many as there are
+unfoldable pub cut : (List ℕ → Option ℕ) → List ℕ → Pieces
+cut size s = cut_turns size (length s) s
+
+-- a size that `cut` can use: an item is not empty and does not pass the end
+abbrev pub IsSize : (List ℕ → Option ℕ) → Type 0
+IsSize size = (s : List ℕ) (n : ℕ) → size s ≡ Some n → (0 < n) × (n ≤ length s)
+
+-- each item with the place at which it begins, the first at `at`
+abbrev pub placed : ℕ → List (List ℕ) → List (ℕ × List ℕ)
+placed at [] = []
+placed at (x ∷ xs) = (at, x) ∷ placed (at + length x) xs
+
+-- a size that more octets behind an item do not change
+abbrev pub IsStable : (List ℕ → Option ℕ) → Type 0
+IsStable size = (s t : List ℕ) (n : ℕ) → size s ≡ Some n → size (s ++ t) ≡ Some n
+
+-- items before those of some pieces
+abbrev pub onto : List (List ℕ) → Pieces → Pieces
+onto xs p = record { items = xs ++ p.items; rest = p.rest }
+
+-- a size that does not look behind the item
+abbrev pub IsLocal : (List ℕ → Option ℕ) → Type 0
+IsLocal size = (s : List ℕ) (n : ℕ) → size s ≡ Some n → size (take n s) ≡ Some n
+
+-- one whole item, and nothing else
+abbrev pub IsItem : (List ℕ → Option ℕ) → List ℕ → Type 0
+IsItem size x = size x ≡ Some (length x)
