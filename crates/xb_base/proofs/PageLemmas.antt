@@ -6,7 +6,7 @@ use Rattle.std.proofs.Math.Seq.{take-append-add, take-length}
 use Rattle.xb_base.specs.Causes.{TookFront, and_then}
 use Rattle.xb_base.specs.Pages.{Gathered}
 
-and_then-nil : (before : Option (List ℕ)) → before ≡ and_then before []
+pub and_then-nil : (before : Option (List ℕ)) → before ≡ and_then before []
 and_then-nil None = refl
 and_then-nil (Some taken) = ap Some (sym (append-nil taken))
 
