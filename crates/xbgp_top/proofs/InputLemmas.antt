@@ -13,7 +13,7 @@ found_more None front buf n so_far reads = absurd reads
 found_more (Some octets) front buf n so_far reads =
     let size : length (front ++ take n buf) ≡ length front + n = omega (arith, length-append front (take n buf), length-take-le n buf reads.fits) in
     let joined : front ++ take n buf ≡ take (length front) octets ++ take n (drop (length front) octets) =
-      ap (λ (l : List ℕ). l ++ take n buf) so_far ∙ ap (λ (l : List ℕ). take (length front) octets ++ l) reads.part in
+    ap (λ (l : List ℕ). l ++ take n buf) so_far ∙ ap (λ (l : List ℕ). take (length front) octets ++ l) reads.part in
     joined ∙ sym (take-add (length front) n octets) ∙ ap (λ (k : ℕ). take k octets) (sym size)
 
 read_more : (held : Option Files) (name front buf : List ℕ) (n : ℕ) → IsFront held name front → Reads held name (length front) buf n → IsFront held name (front ++ take n buf)
@@ -25,6 +25,6 @@ pub read_on : (held first : Option Files) (name front buf new : List ℕ) (n len
     → ok ≡ true → new ≡ (if ok then front ++ take n buf else front) → IsFront first name new
 read_on held first name front buf new n len ok same len_is so_far reads is_ok new_is =
     let reads_then : Reads first name (length front) buf n =
-      subst (λ (k : ℕ). Reads first name k buf n) len_is (subst (λ (h : Option Files). Reads h name len buf n) same reads) in
+    subst (λ (k : ℕ). Reads first name k buf n) len_is (subst (λ (h : Option Files). Reads h name len buf n) same reads) in
     let longer : new ≡ front ++ take n buf = rw is_ok at new_is in
     rw longer (read_more first name front buf n so_far reads_then)

@@ -1,15 +1,14 @@
 -- Texts that are gathered one after another, and then put.
-use Rattle.std.proofs.Common.{◌≡◌, ◌≢◌, ◌⊎◌, ℕ, ◌+◌, ◌<◌, ◌≤◌, length, List, [], ◌∷◌, ◌++◌, Option, Some, None, Result, Ok, Err, flat_map, refl, sym, ◌∙◌, ap, subst, inl, inr, arith, append_assoc}
+use Rattle.std.proofs.Common.{◌≡◌, ℕ, ◌<◌, length, List, [], ◌++◌, Option, Some, None, Result, Ok, Err, sym, ◌∙◌, ap, subst, arith, append_assoc}
 use Rattle.std.proofs.lemmas.List.{append-nil}
 use Rattle.xb_words.specs.Table.{behind, entry_after, IsRising}
 use Rattle.xb_words.proofs.Tables.{after-some, after-none}
-use Rattle.xb_base.specs.Causes.{Rose, TookFront, and_then}
+use Rattle.xb_base.specs.Causes.{Rose, TookFront}
 use Rattle.xb_base.specs.Pages.{Gathered}
 use Rattle.xb_base.specs.Prefixes.{Prefix, Sections, prefix_cmp}
-use Rattle.xb_base.proofs.PageLemmas.{joined_on, front_on, front_put, front_taken, all_taken, begun}
+use Rattle.xb_base.proofs.PageLemmas.{joined_on, front_on, front_put, all_taken, begun}
 use Rattle.xb_base.proofs.PrefixLemmas.{prefix_cmp_total}
 use Rattle.xbgp_top.specs.declared.status.Status.{Status}
-use Rattle.xbgp_top.specs.declared.status.Status.TheVariants.{Done, WriteFault, OutOfMemory}
 use Rattle.xbgp_top.specs.Answers.{answered, heard_line, table_lines}
 use Rattle.xbgp_top.specs.Outputs.{Gathers, Stops, Writes}
 
@@ -20,7 +19,7 @@ more_to_come before now whole page text g =
       taken = g.taken;
       took = g.took;
       joins = ap (λ l. g.taken ++ (page ++ l)) (append-nil text)
-        ∙ sym (append_assoc g.taken page text) ∙ ap (λ l. l ++ text) (ap (λ l. g.taken ++ l) (sym (append-nil page)) ∙ g.joins);
+          ∙ sym (append_assoc g.taken page text) ∙ ap (λ l. l ++ text) (ap (λ l. g.taken ++ l) (sym (append-nil page)) ∙ g.joins);
     }
 
 stops_behind : (before now later : Option (List ℕ)) (whole page part rest : List ℕ) (f g h : ℕ) (status : Status)
@@ -37,9 +36,10 @@ stops_behind before now later whole page part rest f g h status so_far quiet s =
 pub gathers_then : (before now later : Option (List ℕ)) (page middle next first second : List ℕ) (f g h : ℕ) (end : Result (Unit {0}) Status)
     → Gathered before now (page ++ first) middle [] × (g ≡ f) → Gathers now later middle next second g h end → Gathers before later page next (first ++ second) f h end
 gathers_then before now later page middle next first second f g h (Ok done) one two =
-    let whole : (page ++ first) ++ second ≡ page ++ (first ++ second) = append_assoc page first second in
-    (subst (λ w. Gathered before later w next []) whole (joined_on before now later ((page ++ first) ++ second) middle next second [] (more_to_come before now (page ++ first) middle second one.0) two.0),
-      two.1 ∙ one.1)
+    let whole : (page ++ first) ++ second ≡ page ++ (first ++ second) = append_assoc page first second in (
+      subst (λ w. Gathered before later w next []) whole (joined_on before now later ((page ++ first) ++ second) middle next second [] (more_to_come before now (page ++ first) middle second one.0) two.0),
+      two.1 ∙ one.1,
+    )
 gathers_then before now later page middle next first second f g h (Err status) one two =
     let whole : (page ++ first) ++ second ≡ page ++ (first ++ second) = append_assoc page first second in
     subst (λ w. Stops before later w f h status) whole (stops_behind before now later ((page ++ first) ++ second) middle second [] f g h status (more_to_come before now (page ++ first) middle second one.0) one.1 two)
@@ -61,7 +61,7 @@ pub puts_the_page : (before now later : Option (List ℕ)) (text first page show
     → Writes (answered status shown) now later g h end → Writes (answered status text) before later f h end
 puts_the_page before now later text first page shown f g h status end empty same so_far w =
     let gathered : Gathered before now text shown [] =
-      subst (λ p. Gathered before now text p []) (sym same) (subst (λ l. Gathered before now (l ++ text) page []) empty so_far.0) in
+    subst (λ p. Gathered before now text p []) (sym same) (subst (λ l. Gathered before now (l ++ text) page []) empty so_far.0) in
     record {
       only = w.only;
       whole = λ a b. all_taken before now later text shown gathered (w.whole a b);
@@ -87,14 +87,14 @@ pub line_done : (before now later : Option (List ℕ)) (whole page next : List �
     → Gathered now later (page ++ heard_line e) next [] → Gathered before later whole next (table_lines (behind prefix_cmp table (Some e.0)))
 line_done before now later whole page next table last e rising is so_far line =
     joined_on before now later whole page next (heard_line e) (table_lines (behind prefix_cmp table (Some e.0)))
-      (line_to_come before now whole page table last e rising is so_far) line
+    (line_to_come before now whole page table last e rising is so_far) line
 
 pub line_stops : (before now later : Option (List ℕ)) (whole page : List ℕ) (table : Sections) (last : Option Prefix) (e : Prefix × List ℕ) (f g h : ℕ) (status : Status)
     → IsRising prefix_cmp table → entry_after prefix_cmp table last ≡ Some e → Gathered before now whole page (table_lines (behind prefix_cmp table last))
     → g ≡ f → Stops now later (page ++ heard_line e) g h status → Stops before later whole f h status
 line_stops before now later whole page table last e f g h status rising is so_far quiet s =
     stops_behind before now later whole page (heard_line e) (table_lines (behind prefix_cmp table (Some e.0))) f g h status
-      (line_to_come before now whole page table last e rising is so_far) quiet s
+    (line_to_come before now whole page table last e rising is so_far) quiet s
 
 pub last_line : (before now : Option (List ℕ)) (whole page : List ℕ) (table : Sections) (last : Option Prefix) → entry_after prefix_cmp table last ≡ None
     → Gathered before now whole page (table_lines (behind prefix_cmp table last)) → Gathered before now whole page []

@@ -1,16 +1,14 @@
 -- How the parts of a run make its answer.
-use Rattle.std.proofs.Common.{◌≡◌, ◌≢◌, ◌⊎◌, ℕ, ◌<◌, ◌≤◌, Bool, true, false, if◌then◌else◌, nat_lt, List, [], length, Option, Some, None, Result, Ok, Err, IfSome, IsNone, IsSomeAnd, MatchOption, refl, sym, ◌∙◌, ap, subst, inl, inr, arith}
-use Rattle.std.specs.Option.{option_map}
+use Rattle.std.proofs.Common.{◌≡◌, ◌≢◌, ◌⊎◌, ℕ, ◌<◌, ◌≤◌, Bool, true, false, if◌then◌else◌, nat_lt, List, [], length, Option, Some, None, Ok, Err, IfSome, IsNone, IsSomeAnd, MatchOption, refl, sym, ◌∙◌, ap, subst, inl, inr, arith}
 use Rattle.std.proofs.lemmas.Bool.{lt-ltb, le-ltb}
-use Rattle.xb_base.specs.Causes.{Files, file_named, Rose, IsMissing, TookFront, and_then}
+use Rattle.xb_base.specs.Causes.{Files, file_named, Rose, IsMissing, TookFront}
 use Rattle.xb_base.proofs.PageLemmas.{and_then-nil}
 use Rattle.bgp_update.specs.Heard.{heard}
-use Rattle.xb_base.specs.Prefixes.{Sections}
 use Rattle.xbgp_top.specs.declared.status.File.TheVariants.{Input}
 use Rattle.xbgp_top.specs.declared.status.Status.{Status}
-use Rattle.xbgp_top.specs.declared.status.Status.TheVariants.{Done, Usage, ReadFault, WriteFault, OutOfMemory, TooLong, BadStream}
-use Rattle.xbgp_top.specs.Answers.{Answer, answered, answer, command_answer, heard_answer, usage_answer, with_input, input_limit, fault_line, bad_stream, table_lines, end_line}
-use Rattle.xbgp_top.specs.Commands.{Command, hear, command_of}
+use Rattle.xbgp_top.specs.declared.status.Status.TheVariants.{Done, ReadFault, WriteFault, OutOfMemory, TooLong}
+use Rattle.xbgp_top.specs.Answers.{Answer, answered, answer, command_answer, heard_answer, usage_answer, input_limit, fault_line, bad_stream, table_lines, end_line}
+use Rattle.xbgp_top.specs.Commands.{hear, command_of}
 use Rattle.xbgp_top.specs.Outputs.{Writes}
 use Rattle.xbgp_top.specs.Top.{Explains, IsAnswered, SaysMissing, told_answer}
 use Rattle.std.specs.Prelude.{codes, ◌∷◌, ◌++◌}
@@ -38,6 +36,7 @@ explains_written told a reads_before reads_now writes_before writes_now before n
         let written : status ≢ WriteFault = λ fault. no_write (w.fault fault) in
         let status_is : status ≡ a.status = elim (w.only) as (λ _. status ≡ a.status) [ inl same ↦ same | inr other ↦ elim other as (λ _. status ≡ a.status) [ inl fault ↦ absurd (written fault) | inr none ↦ absurd (memory none) ] ] in
         subst (λ (x : Answer). IsAnswered x before now status) (sym e) (status_is, λ _. w.whole written memory)
+
     front : (o : Option Answer) → IfSome o (λ t. t ≡ a) → IfSome o (λ t. TookFront before now t.text)
     front None e = tt
     front (Some t) e = subst (λ (x : Answer). TookFront before now x.text) (sym e) w.front
@@ -60,8 +59,8 @@ unfolding command_answer
 long_is_told None name long = tt
 long_is_told (Some files) name long =
     elim (file_named files name) as (λ o. MatchOption o ⊥ (λ octets. input_limit < length octets)
-      → elim o as (λ x. Answer) [ None ↦ answered ReadFault [] | Some octets ↦ if nat_lt input_limit (length octets) then answered (TooLong Input) (fault_line (codes "long" ∷ codes "input" ∷ [])) else heard_answer octets ]
-        ≡ answered (TooLong Input) (fault_line (codes "long" ∷ codes "input" ∷ []))) [
+    → elim o as (λ x. Answer) [ None ↦ answered ReadFault [] | Some octets ↦ if nat_lt input_limit (length octets) then answered (TooLong Input) (fault_line (codes "long" ∷ codes "input" ∷ [])) else heard_answer octets ]
+    ≡ answered (TooLong Input) (fault_line (codes "long" ∷ codes "input" ∷ []))) [
       | None ↦ λ l. absurd l
       | Some octets ↦ λ l. let past : nat_lt input_limit (length octets) ≡ true = lt-ltb input_limit (length octets) l in rw past refl
     ] long
@@ -77,8 +76,8 @@ missing_answer : (files : Files) (name : List ℕ) → IsNone (file_named files 
 unfolding command_answer
 missing_answer files name missing =
     elim (file_named files name) as (λ o. IsNone o
-      → elim o as (λ x. Answer) [ None ↦ answered ReadFault [] | Some octets ↦ if nat_lt input_limit (length octets) then answered (TooLong Input) (fault_line (codes "long" ∷ codes "input" ∷ [])) else heard_answer octets ]
-        ≡ answered ReadFault []) [
+    → elim o as (λ x. Answer) [ None ↦ answered ReadFault [] | Some octets ↦ if nat_lt input_limit (length octets) then answered (TooLong Input) (fault_line (codes "long" ∷ codes "input" ∷ [])) else heard_answer octets ]
+    ≡ answered ReadFault []) [
       | None ↦ λ n. refl
       | Some octets ↦ λ n. absurd (cc n)
     ] missing
@@ -101,16 +100,16 @@ explains_fault None name reads_before reads_now writes before later cause =
 explains_fault (Some files) name reads_before reads_now writes before later cause =
     record {
       exact = λ no_read no_write memory.
-        elim cause as (λ _. IsAnswered (command_answer (hear name) files) before before ReadFault) [
-          | inl rose ↦ absurd (no_read rose)
-          | inr missing ↦ subst (λ (a : Answer). IsAnswered a before before ReadFault) (sym (missing_answer files name missing)) (refl, λ x. absurd (x refl))
-        ];
+          elim cause as (λ _. IsAnswered (command_answer (hear name) files) before before ReadFault) [
+            | inl rose ↦ absurd (no_read rose)
+            | inr missing ↦ subst (λ (a : Answer). IsAnswered a before before ReadFault) (sym (missing_answer files name missing)) (refl, λ x. absurd (x refl))
+          ];
       front = (0, and_then-nil before);
       read_fault = λ e.
-        elim cause as (λ _. Rose reads_before reads_now ⊎ ((command_answer (hear name) files).status ≡ ReadFault)) [
-          | inl rose ↦ inl rose
-          | inr missing ↦ inr (ap (λ (a : Answer). a.status) (missing_answer files name missing))
-        ];
+          elim cause as (λ _. Rose reads_before reads_now ⊎ ((command_answer (hear name) files).status ≡ ReadFault)) [
+            | inl rose ↦ inl rose
+            | inr missing ↦ inr (ap (λ (a : Answer). a.status) (missing_answer files name missing))
+          ];
       write_fault = λ e. absurd (cc e);
       quiet_reads = λ x y. absurd (x refl);
       quiet_writes = λ x y. refl;

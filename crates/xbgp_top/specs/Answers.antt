@@ -1,10 +1,9 @@
 -- The answer to the words of a command line: a status and a text, from the files that are held (this project's own).
-use Rattle.std.specs.Prelude.{ℕ, List, [], ◌∷◌, ◌++◌, length, flat_map, Option, Some, None, Ok, Err, codes, decimal, nat_lt, if◌then◌else◌}
+use Rattle.std.specs.Prelude.{ℕ, List, [], ◌∷◌, ◌++◌, length, flat_map, Some, None, Ok, Err, codes, decimal, nat_lt, if◌then◌else◌}
 use Rattle.xb_base.specs.Causes.{Files, file_named}
 use Rattle.xb_base.specs.Prefixes.{Prefix, Sections}
 use Rattle.xb_base.specs.Texts.{line, prefix_text, hex_text}
 use Rattle.bgp_update.specs.Heard.{heard}
-use Rattle.xbgp_top.specs.declared.status.File.{File}
 use Rattle.xbgp_top.specs.declared.status.File.TheVariants.{Input}
 use Rattle.xbgp_top.specs.declared.status.Status.{Status}
 use Rattle.xbgp_top.specs.declared.status.Status.TheVariants.{Done, Usage, ReadFault, TooLong, BadStream}

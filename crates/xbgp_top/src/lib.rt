@@ -12,3 +12,5 @@ mod status;
 pub use entry::run;
 pub use status::{File, Status};
 
+#[cfg(test)]
+mod tests;

@@ -1,4 +1,4 @@
-use Rattle.std.proofs.Common.{rules, ◌≡◌, ◌∙◌, length, arith}
+use Rattle.std.proofs.Common.{◌≡◌, ◌∙◌, length, arith}
 use Rattle.xbgp_top.proofs.InputLemmas.{read_on}
 use Rattle.xbgp_top.proofs.input.read_pieces.Goals as goal
 
@@ -9,5 +9,5 @@ pieces-preserved g c =
       held = c.read.ensures.same ∙ c.pieces.invariant.held;
       faults = c.in-Ok.ensures.quiet ∙ c.pieces.invariant.faults;
       front = read_on _ _ _ c.pieces.input.items _ _ _ _ _ c.pieces.invariant.held at c.pieces.invariant.front c.in-Ok.ensures.read
-        c.if-is_err.ensures.negation c.extend_from_slice.ensures.items;
+          c.if-is_err.ensures.negation c.extend_from_slice.ensures.items;
     }

@@ -8,4 +8,4 @@ pub returns-in-Ok-gather_answer : goal.returns-in-Ok-gather_answer
 returns-in-Ok-gather_answer g c =
     let empty : c.in-Ok.page.octets ≡ [] = search rules in
     puts_the_page _ _ _ (table_lines c.args.table.now ++ end_line) c.in-Ok.page.octets _ _ _ _ _ Done c.say.result empty c.as_slice.ensures.value
-      c.in-Ok-gather_answer.ensures c.say.ensures
+    c.in-Ok-gather_answer.ensures c.say.ensures
