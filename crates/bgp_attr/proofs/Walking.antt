@@ -1,5 +1,6 @@
 -- Laws of the walk over attributes.
-use Rattle.std.proofs.Common.{◌≡◌, refl, ap, ◌∙◌, ℕ, ◌+◌, false, List, [], ◌∷◌, ◌++◌, length, take, drop, map, Some, None, arith}
+use Rattle.std.proofs.Common.{◌≡◌, refl, ap, ◌∙◌, ℕ, ◌+◌, true, false, List, [], ◌∷◌, ◌++◌, length, take, drop, map, Some, None, arith}
+use Rattle.std.proofs.lemmas.Bool.{eqb-true}
 use Rattle.std.proofs.lemmas.List.{length-append, length-take-le}
 use Rattle.std.specs.Prelude.{Ok, Err, ◌==◌}
 use Rattle.std.specs.List.{concat}
@@ -34,3 +35,7 @@ attributes-overrun at (b ∷ s) e h =
 pub attributes-nil : (at : ℕ) → attributes_from at [] ≡ []
 unfolding attributes_from cut
 attributes-nil at = refl
+
+pub attributes-empty : (at : ℕ) (s : List ℕ) → (length s == 0) ≡ true → attributes_from at s ≡ []
+attributes-empty at [] e = attributes-nil at
+attributes-empty at (b ∷ s) e = absurd (omega (arith, eqb-true (length (b ∷ s)) 0 e))

@@ -1,5 +1,5 @@
 // The attributes of a section, one after another.
-ghost use Rattle.std.specs.Prelude.{◌≡◌, ◌≤◌, ◌+◌, ◌++◌, Some, IfSome, length, option_map, option_to_list, slice_index};
+ghost use Rattle.std.specs.Prelude.{◌≡◌, ◌≤◌, ◌++◌, [], Some, IfNone, IfSome, length, option_map, option_to_list, slice_index};
 ghost use Rattle.bgp_attr.specs.Attributes.{attribute_size, has_long_length, header_size};
 ghost use Rattle.bgp_attr.specs.Walks.{attributes_from, found};
 ghost use Rattle.bgp_attr.specs.Shown.{shown};
@@ -106,7 +106,8 @@ impl<'a> Attrs<'a> {
 
     /// The next attribute. After an overrun nothing comes any more.
     pub fn next(&mut self) -> Option<Result<Attr<'a>, Overrun>>
-        ensures { self.old ≡ option_to_list (option_map shown result) ++ self.new }
+        ensures coming { self.old ≡ option_to_list (option_map shown result) ++ self.new }
+        ensures end { IfNone result (self.old ≡ []) }
     {
         if self.rest.is_empty() {
             return None;
