@@ -1,0 +1,4 @@
+pub mod PrefixLemmas
+pub mod TextLemmas
+pub mod MemoryLemmas
+pub mod Streams
