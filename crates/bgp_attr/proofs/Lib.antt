@@ -1,4 +1,3 @@
-pub mod Places
 pub mod Segments
 pub mod Sizes
 pub mod Walking

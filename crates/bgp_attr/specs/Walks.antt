@@ -1,7 +1,7 @@
 -- What a walk over the attributes of a section gives (RFC 4271, 4.3), as a list of what is still to come.
-use Rattle.std.specs.Prelude.{◌≡◌, ℕ, ◌+◌, List, [], ◌∷◌, ◌++◌, length, take, drop, map, None, Result, Ok, Err}
-use Rattle.std.specs.List.{concat, AllByRecursion}
-use Rattle.xb_words.specs.Cut.{Pieces, cut, placed}
+use Rattle.std.specs.Prelude.{◌≡◌, ℕ, List, [], ◌∷◌, ◌++◌, length, take, drop, None, Result, Ok, Err}
+use Rattle.std.specs.List.{AllByRecursion}
+use Rattle.xb_words.specs.Cut.{walk_from}
 use Rattle.bgp_attr.specs.declared.attrs.Overrun.{Overrun}
 use Rattle.bgp_attr.specs.Attributes.{attribute_size, flags_of, code_of, value_of}
 
@@ -13,37 +13,28 @@ pub record Found : Type 0 where
   pub value : List ℕ
   pub raw : List ℕ
 
-abbrev pub found : ℕ × List ℕ → Found
-found p = record { at = p.0; flags = flags_of p.1; code = code_of p.1; value = value_of p.1; raw = p.1 }
+abbrev pub found : ℕ → List ℕ → Found
+found at raw = record { at = at; flags = flags_of raw; code = code_of raw; value = value_of raw; raw = raw }
 
--- a step of the walk that gives an attribute
-abbrev pub gives : ℕ × List ℕ → Result Found Overrun
-gives p = Ok (found p)
+-- an attribute at a place passes the end
+abbrev pub overrun : ℕ → Overrun
+overrun at = record { at = at }
 
--- the step at an attribute that passes the end; there is none where nothing is left
-abbrev pub overruns : ℕ → List ℕ → List (Result Found Overrun)
-overruns at [] = []
-overruns at (b ∷ rest) = Err (record { at = at }) ∷ []
-
--- the walk over pieces whose first octet has a place: the attributes, and an overrun where something is left behind them
-abbrev pub walk_of : ℕ → Pieces → List (Result Found Overrun)
-walk_of at pieces = map gives (placed at pieces.items) ++ overruns (at + length (concat pieces.items)) pieces.rest
-
--- the walk over a section whose first octet has a place
-unfoldable pub attributes_from : ℕ → List ℕ → List (Result Found Overrun)
-attributes_from at section = walk_of at (cut attribute_size section)
+-- the attributes of a section whose first octet has a place, and an overrun where something is left behind them
+abbrev pub attributes_from : ℕ → List ℕ → List (Result Found Overrun)
+attributes_from at section = walk_from attribute_size found overrun at section
 
 -- the octets of all attributes that a walk gives, joined
 abbrev pub raws : List (Result Found Overrun) → List ℕ
 raws [] = []
-raws (Ok a ∷ walk) = a.raw ++ raws walk
-raws (Err o ∷ walk) = raws walk
+raws (Ok a ∷ steps) = a.raw ++ raws steps
+raws (Err o ∷ steps) = raws steps
 
 -- where a walk over so many octets ends: at the overrun, or else at the end
 abbrev pub end_of : ℕ → List (Result Found Overrun) → ℕ
 end_of len [] = len
-end_of len (Ok a ∷ walk) = end_of len walk
-end_of len (Err o ∷ walk) = o.at
+end_of len (Ok a ∷ steps) = end_of len steps
+end_of len (Err o ∷ steps) = o.at
 
 -- the attributes join to the section up to an overrun
 abbrev pub attributes_join : Type 0

@@ -82,7 +82,7 @@ fn size_of(octets: &[u8]) -> Option<usize>
 // The attribute whose octets these are.
 fn attr_at<'a>(raw: &'a [u8], at: usize) -> Attr<'a>
     requires { header_size (slice_index raw.now 0) ≤ length raw.now }
-    ensures { shown (Ok result) ≡ Ok (found (at, raw.now)) }
+    ensures { shown (Ok result) ≡ Ok (found at raw.now) }
 {
     Attr {
         flags: raw[0],
@@ -105,6 +105,7 @@ impl<'a> Attrs<'a> {
     }
 
     /// The next attribute. After an overrun nothing comes any more.
+    #[tactic(auto, using(crate::proofs::Walking::attributes_some, crate::proofs::Walking::attributes_overrun, crate::proofs::Walking::attributes_nil, crate::proofs::Walking::attributes_empty))]
     pub fn next(&mut self) -> Option<Result<Attr<'a>, Overrun>>
         ensures coming { self.old ≡ option_to_list (option_map shown result) ++ self.new }
         ensures end { IfNone result (self.old ≡ []) }

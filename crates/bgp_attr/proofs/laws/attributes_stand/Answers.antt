@@ -1,4 +1,4 @@
-use Rattle.bgp_attr.proofs.Places.{attributes_stand_holds}
+use Rattle.bgp_attr.proofs.Walking.{attributes_stand_holds}
 use Rattle.bgp_attr.proofs.laws.attributes_stand.Goals as goal
 
 pub returns : goal.returns
