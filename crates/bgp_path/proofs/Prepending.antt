@@ -1,14 +1,11 @@
 -- A path is the octets of its segments, with a number more in front of it or without.
-use Rattle.std.proofs.Common.{◌≡◌, refl, sym, ap, ◌∙◌, subst, ℕ, zero, suc, ◌+◌, ◌*◌, ◌<◌, ◌≤◌, Bool, true, false, List, [], ◌∷◌, ◌++◌, ◌⊎◌, inl, inr, length, take, drop, flat_map, append_assoc, arith}
-use Rattle.std.proofs.lemmas.Bool.{le-leb}
-use Rattle.std.proofs.lemmas.Bool.Decides.{nat_tests}
+use Rattle.std.proofs.Common.{◌≡◌, refl, sym, ap, ◌∙◌, subst, ℕ, zero, suc, ◌+◌, ◌*◌, ◌≤◌, Bool, true, false, List, [], ◌∷◌, ◌++◌, length, take, drop, flat_map, append_assoc, arith}
 use Rattle.std.proofs.lemmas.List.{length-append, append-nil}
 use Rattle.std.specs.Prelude.{◌||◌, ◌==◌, nat_le, slice_index, if◌then◌else◌}
 use Rattle.xb_words.specs.Octets.{AreOctets}
 use Rattle.bgp_attr.specs.Paths.{Segment, path, path_ok, path_octets, segment_octets, number_octets, numbers_of, prepend}
-use Rattle.bgp_path.specs.Parts.{Part, part_octets, parts, read, segments_join}
+use Rattle.bgp_path.specs.Parts.{Part, part_octets, parts, read, segments_join, width_of}
 use Rattle.bgp_path.specs.Splits.{Ends, Splits}
-use Rattle.bgp_path.specs.Widths.{width_of}
 use Rattle.bgp_path.proofs.Rereading.{octets-append, length-numbers_of, flat_map-numbers_of}
 use Rattle.bgp_path.proofs.Splitting.{splits, ends}
 
@@ -81,46 +78,35 @@ prepend-ends w asn s end =
     let alone : Segment = record { is_set = false; numbers = asn ∷ [] } in
     ap (prepend asn) end.segments ∙ ap (λ (t : List Segment). alone ∷ t) (sym end.segments)
 
--- whether a first segment can't take a number in
-abbrev is_closed : ℕ → Part → Bool
-is_closed w p = p.set || nat_le 255 (length (numbers_of w p.count p.octets))
-
-prepend-split : (w asn : ℕ) (s : List ℕ) (p : Part) (rest : List ℕ) (closed : Bool) → Splits w s p rest → is_closed w p ≡ closed
+-- a number in front of a path, by whether its first segment is a set or full
+prepend-split : (w asn : ℕ) (s : List ℕ) (p : Part) (rest : List ℕ) (closed : Bool) → Splits w s p rest → (p.set || nat_le 255 p.count) ≡ closed
     → prepend asn (path w s) ≡
     (if closed then record { is_set = false; numbers = asn ∷ [] } ∷ read w p ∷ path w rest
     else record { is_set = false; numbers = asn ∷ numbers_of w p.count p.octets } ∷ path w rest)
 prepend-split w asn s p rest closed split e =
     let alone : Segment = record { is_set = false; numbers = asn ∷ [] } in
     let grown : Segment = record { is_set = false; numbers = asn ∷ numbers_of w p.count p.octets } in
-    ap (prepend asn) split.segments ∙ ap (λ b. if b then alone ∷ read w p ∷ path w rest else (grown ∷ path w rest)) e
+    ap (prepend asn) split.segments
+    ∙ ap (λ n. if p.set || nat_le 255 n then alone ∷ read w p ∷ path w rest else (grown ∷ path w rest)) (length-numbers_of w p.count p.octets)
+    ∙ ap (λ b. if b then alone ∷ read w p ∷ path w rest else (grown ∷ path w rest)) e
 
-closed_if : (set : Bool) (n count : ℕ) → n ≡ count → (set ≡ true) ⊎ (count ≡ 255) → (set || nat_le 255 n) ≡ true
-closed_if true n count e h = refl
-closed_if false n count e (inl h) = cc
-closed_if false n count e (inr h) = le-leb 255 n (omega (arith, e, h))
-
-open_if : (set : Bool) (n count : ℕ) → n ≡ count → set ≡ false → count < 255 → (set || nat_le 255 n) ≡ false
-open_if true n count e s h = cc
-open_if false n count e s h = grind (arith, nat_tests)
-
-pub prepend-closed : (w asn : ℕ) (s : List ℕ) (p : Part) (rest : List ℕ) → Splits w s p rest → (p.set ≡ true) ⊎ (p.count ≡ 255)
+pub prepend-closed : (w asn : ℕ) (s : List ℕ) (p : Part) (rest : List ℕ) → Splits w s p rest → (p.set || nat_le 255 p.count) ≡ true
     → prepend asn (path w s) ≡ record { is_set = false; numbers = asn ∷ [] } ∷ path w s
 prepend-closed w asn s p rest split full =
     let alone : Segment = record { is_set = false; numbers = asn ∷ [] } in
-    let closed = closed_if p.set (length (numbers_of w p.count p.octets)) p.count (length-numbers_of w p.count p.octets) full in
-    prepend-split w asn s p rest true split closed ∙ ap (λ (t : List Segment). alone ∷ t) (sym split.segments)
+    prepend-split w asn s p rest true split full ∙ ap (λ (t : List Segment). alone ∷ t) (sym split.segments)
 
 -- a sequence that has room takes the number in
-pub prepend-open : (wide : Bool) (asn : ℕ) (s : List ℕ) (p : Part) (rest : List ℕ) → AreOctets s → Splits (width_of wide) s p rest → p.set ≡ false → (p.count ≡ 255 → ⊥)
+pub prepend-open : (wide : Bool) (asn : ℕ) (s : List ℕ) (p : Part) (rest : List ℕ) → AreOctets s → Splits (width_of wide) s p rest → (p.set || nat_le 255 p.count) ≡ false
     → path_octets (width_of wide) (prepend asn (path (width_of wide) s)) ≡ 2 ∷ (p.count + 1) ∷ number_octets (width_of wide) asn ++ drop 2 s
-prepend-open wide asn s p rest o split sequence room =
+prepend-open wide asn s p rest o split room =
     let w = width_of wide in
     let ns = numbers_of w p.count p.octets in
     let number = number_octets w asn in
     let P : List ℕ → Type 0 = λ t. AreOctets t in
     let both = octets-append (part_octets p) rest (subst P (sym split.joined) o) in
     let count = length-numbers_of w p.count p.octets in
-    ap (path_octets w) (prepend-split w asn s p rest false split (open_if p.set (length ns) p.count count sequence (omega (arith, both.0.1.0, room))))
+    ap (path_octets w) (prepend-split w asn s p rest false split room)
     ∙ ap (λ n. 2 ∷ n ∷ ((number ++ flat_map (number_octets w) ns) ++ path_octets w (path w rest))) (let more : suc (length ns) ≡ p.count + 1 = omega (arith, count) in more)
     ∙ ap (λ t. 2 ∷ (p.count + 1) ∷ ((number ++ t) ++ path_octets w (path w rest))) (flat_map-numbers_of wide p.count p.octets split.octets both.0.1.1)
     ∙ ap (λ t. 2 ∷ (p.count + 1) ∷ ((number ++ p.octets) ++ t)) (path_octets-path wide rest both.1 split.ok)

@@ -7,7 +7,7 @@ use Rattle.std.specs.Prelude.{◌||◌, ◌==◌}
 use Rattle.std.specs.List.{list_any}
 use Rattle.xb_words.specs.Octets.{AreOctets}
 use Rattle.bgp_attr.specs.Paths.{first_number, number_octets, numbers_of}
-use Rattle.bgp_path.specs.Widths.{width_of}
+use Rattle.bgp_path.specs.Parts.{width_of}
 
 -- octets stay octets in each part
 pub octets-append : (xs ys : List ℕ) → AreOctets (xs ++ ys) → AreOctets xs × AreOctets ys

@@ -3,6 +3,7 @@ use Rattle.std.specs.Prelude.{◌≡◌, ◌<◌, ◌*◌, ℕ, true, List, [], 
 use Rattle.bgp_attr.specs.Paths.{path, path_ok}
 use Rattle.bgp_path.specs.Parts.{Part, part_octets, parts, read}
 
+-- the path is this segment and the path behind it
 pub record Splits (w : ℕ) (s : List ℕ) (first : Part) (rest : List ℕ) : Type 0 where
   pub pieces : parts w s ≡ first ∷ parts w rest
   pub segments : path w s ≡ read w first ∷ path w rest
@@ -11,6 +12,7 @@ pub record Splits (w : ℕ) (s : List ℕ) (first : Part) (rest : List ℕ) : Ty
   pub full : 0 < first.count
   pub octets : length first.octets ≡ w * first.count
 
+-- there is no segment
 pub record Ends (w : ℕ) (s : List ℕ) : Type 0 where
   pub pieces : parts w s ≡ []
   pub segments : path w s ≡ []

@@ -5,8 +5,8 @@
 //! leftmost AS, and the path with one AS more in front, which goes into a slice of the caller. No memory is taken.
 //!
 //! It stands on bgp_attr, which says which values are paths and what their segments are. `specs/Parts` has what the
-//! walk gives, and `specs/Fronts` what a text at the front of a slice is. The number of octets of an AS number is an
-//! argument of all definitions and lemmas.
+//! walk gives, and `specs/Fronts` what it is to write a text to the front of a slice. Definitions and lemmas have the
+//! octets of an AS number, two or four, as an argument.
 #![tactic(auto)]
 
 pub mod laws;

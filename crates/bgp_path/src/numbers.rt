@@ -2,7 +2,7 @@
 ghost use Rattle.std.specs.Prelude.{◌≡◌, ◌≤◌, ◌*◌, ◌==◌, ◌++◌, ◌+◌, false, length, take, drop};
 ghost use Rattle.std.specs.List.{list_any};
 ghost use Rattle.bgp_attr.specs.Paths.{first_number, number_octets, numbers_of};
-ghost use Rattle.bgp_path.specs.Widths.{width_of};
+ghost use Rattle.bgp_path.specs.Parts.{width_of};
 
 use xb_words::{u16_at, u32_at};
 

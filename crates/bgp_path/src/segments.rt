@@ -1,11 +1,10 @@
 // The segments of an AS path, one after another, and calls on the whole path.
-ghost use Rattle.std.specs.Prelude.{◌≡◌, ℕ, ◌≤◌, ◌<◌, ◌+◌, ◌++◌, ◌∷◌, [], true, IfNone, IfSome, MatchOption, IsTrue, is_some, length, option_map, option_to_list, if◌then◌else◌};
-ghost use Rattle.bgp_attr.specs.Paths.{path_ok as is_path, number_octets, path as path_in, path_octets, prepend, hops as length_of, contains as has_asn, leftmost as first_of};
-ghost use Rattle.bgp_path.specs.Parts.{Walk, walk_over, path_of, prepended};
+ghost use Rattle.std.specs.Prelude.{◌≡◌, ℕ, ◌≤◌, ◌+◌, ◌++◌, ◌∷◌, ◌||◌, [], true, IfNone, IfSome, MatchOption, is_some, length, option_map, option_to_list, nat_le, if◌then◌else◌};
+ghost use Rattle.bgp_attr.specs.Paths.{path_ok as is_path, number_octets, path as path_in, path_octets, prepend, hops as path_hops, contains as path_contains, leftmost as path_leftmost};
+ghost use Rattle.bgp_path.specs.Parts.{walk_over, path_of, prepended, width_of};
 ghost use Rattle.bgp_path.specs.Fronts.{WritesFront};
 ghost use Rattle.bgp_path.specs.Shown.{shown};
 ghost use Rattle.bgp_path.specs.Splits.{Ends, Splits};
-ghost use Rattle.bgp_path.specs.Widths.{width_of};
 
 use crate::numbers::{has_number, number_at_front, put, put_number, width};
 use bgp_attr::path_ok;
@@ -32,14 +31,14 @@ pub struct Segment<'a> {
 pub struct Segments<'a> {
     value: &'a [u8],
     rest: &'a [u8],
+    // an AS number has four octets (RFC 6793), not two
     wide: bool,
 }
 
 impl<'a> Model for Segments<'a> {
     ghost use Rattle.std.specs.Prelude.{◌≡◌, ◌≤◌, true, length};
     ghost use Rattle.bgp_attr.specs.Paths.{path_ok as is_path};
-    ghost use Rattle.bgp_path.specs.Parts.{Walk, parts};
-    ghost use Rattle.bgp_path.specs.Widths.{width_of};
+    ghost use Rattle.bgp_path.specs.Parts.{Walk, parts, width_of};
 
     ghost Value = { Walk };
 
@@ -77,8 +76,14 @@ fn hops_of(segment: &Segment<'_>) -> u32
     }
 }
 
-// What a path is with one AS number more in front: the count of its first segment, a sequence, and what stands behind the
-// number.
+// Whether a segment takes no AS number in front of its own: it is a set, or full.
+fn is_closed(segment: &Segment<'_>) -> bool
+    ensures { result ≡ (segment.now.set || nat_le 255 segment.now.count) }
+{
+    segment.set || segment.count == MOST
+}
+
+// A path with one AS number more in front begins with a sequence: its count, and what stands behind that number.
 fn grown<'a>(path: &'a [u8], wide: bool) -> (u8, &'a [u8])
     requires { is_path (width_of wide) path.now ≡ true }
     ensures { (asn : ℕ) → path_octets (width_of wide) (prepend asn (path_in (width_of wide) path.now))
@@ -87,7 +92,7 @@ fn grown<'a>(path: &'a [u8], wide: bool) -> (u8, &'a [u8])
     let Some((first, _)) = split_first(path, wide) else {
         return (1, path);
     };
-    if first.set || first.count == MOST {
+    if is_closed(&first) {
         return (1, path);
     }
     (first.count + 1, path.split_at(2).1)
@@ -122,10 +127,9 @@ impl<'a> Segments<'a> {
         Some(segment)
     }
 
-    #[tactic(auto, using(crate::proofs::Wholes::hops_split))]
     /// How many AS numbers the whole path has, a set counting 1 (RFC 4271, 9.1.2.2 a).
     pub fn hops(&self) -> u32
-        ensures { result ≡ length_of (path_of self.now) }
+        ensures { result ≡ path_hops (path_of self.now) }
     {
         let mut hops = 0;
         let mut rest = self.value;
@@ -136,10 +140,10 @@ impl<'a> Segments<'a> {
         hops
     }
 
-    #[tactic(auto, using(crate::proofs::Wholes::contains_split))]
     /// Whether an AS number stands in the whole path (RFC 4271, 9.1.2).
+    #[tactic(auto, using(crate::proofs::Wholes::contains_split))]
     pub fn contains(&self, asn: u32) -> bool
-        ensures { result ≡ has_asn asn (path_of self.now) }
+        ensures { result ≡ path_contains asn (path_of self.now) }
     {
         let mut rest = self.value;
         'segments: while let Some((segment, behind)) = split_first(rest, self.wide) {
@@ -151,10 +155,10 @@ impl<'a> Segments<'a> {
         false
     }
 
-    #[tactic(auto, using(crate::proofs::Wholes::leftmost_split))]
     /// The first AS number of the whole path, where its first segment is a sequence.
+    #[tactic(auto, using(crate::proofs::Wholes::leftmost_split))]
     pub fn leftmost(&self) -> Option<u32>
-        ensures { result ≡ first_of (path_of self.now) }
+        ensures { result ≡ path_leftmost (path_of self.now) }
     {
         let (first, _) = split_first(self.value, self.wide)?;
         if first.set {

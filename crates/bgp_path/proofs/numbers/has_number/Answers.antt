@@ -1,5 +1,5 @@
 use Rattle.std.proofs.Common.{◌∙◌, ap, ◌<◌, drop, arith}
-use Rattle.bgp_path.specs.Widths.{width_of}
+use Rattle.bgp_path.specs.Parts.{width_of}
 use Rattle.bgp_path.proofs.Rereading.{numbers_pass, numbers_left}
 use Rattle.bgp_path.proofs.numbers.has_number.Goals as goal
 

@@ -1,6 +1,6 @@
 use Rattle.std.proofs.Common.{refl, sym, ◌∙◌, ◌+◌, ◌*◌, length, get_or, arith}
 use Rattle.std.proofs.lemmas.Bool.{eqb-true}
-use Rattle.bgp_path.specs.Widths.{width_of}
+use Rattle.bgp_path.specs.Parts.{width_of}
 use Rattle.bgp_path.proofs.Splitting.{splits, front_within, not_empty, ends}
 use Rattle.bgp_path.proofs.segments.split_first.Goals as goal
 

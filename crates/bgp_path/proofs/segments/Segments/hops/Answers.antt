@@ -1,5 +1,5 @@
 use Rattle.std.proofs.Common.{arith}
-use Rattle.bgp_path.specs.Widths.{width_of}
+use Rattle.bgp_path.specs.Parts.{width_of}
 use Rattle.bgp_path.specs.Shown.{shown}
 use Rattle.bgp_path.proofs.Wholes.{counts_le, hops_split}
 use Rattle.bgp_path.proofs.segments.Segments.hops.Goals as goal
