@@ -1,5 +1,5 @@
 -- The walk over attributes: what is next, and that it gives parts of the section, each at its place.
-use Rattle.std.proofs.Common.{◌≡◌, refl, sym, ap, ◌∙◌, ℕ, ◌+◌, ◌<◌, List, [], ◌∷◌, ◌++◌, length, take, drop, Some, None, append_assoc, arith}
+use Rattle.std.proofs.Common.{◌≡◌, refl, sym, ap, ◌∙◌, ℕ, ◌+◌, ◌<◌, List, [], ◌∷◌, ◌++◌, length, take, drop, Some, None, append_assoc}
 use Rattle.std.proofs.lemmas.List.{length-append, append-nil, take_at, drop_at}
 use Rattle.std.proofs.Math.Seq.{take-length}
 use Rattle.std.specs.Prelude.{Ok, Err}
@@ -17,12 +17,8 @@ attributes_some = walk-some attribute_size attribute_is_size found overrun
 pub attributes_overrun : (at : ℕ) (s : List ℕ) → attribute_size s ≡ None → 0 < length s → attributes_from at s ≡ Err (overrun at) ∷ []
 attributes_overrun = walk-error attribute_size attribute_is_size found overrun
 
-pub attributes_nil : (at : ℕ) → attributes_from at [] ≡ []
+pub attributes_nil : (at : ℕ) (s : List ℕ) → length s ≡ 0 → attributes_from at s ≡ []
 attributes_nil = walk-nil attribute_size attribute_is_size found overrun
-
-pub attributes_empty : (at : ℕ) (s : List ℕ) → length s ≡ 0 → attributes_from at s ≡ []
-attributes_empty at [] e = attributes_nil at
-attributes_empty at (b ∷ s) e = absurd (omega (arith, e))
 
 -- the octets that a walk gives are those of its items
 raws-walk : (at : ℕ) (xs : List (List ℕ)) (rest : List ℕ) → raws (walk found overrun at xs rest) ≡ concat xs

@@ -1,5 +1,5 @@
 // The attributes of a section, one after another.
-ghost use Rattle.std.specs.Prelude.{◌≡◌, ◌≤◌, ◌++◌, [], Some, IfNone, IfSome, length, option_map, option_to_list, slice_index};
+ghost use Rattle.std.specs.Prelude.{◌≡◌, ◌≤◌, ◌∷◌, [], Some, IfNone, IfSome, length, slice_index};
 ghost use Rattle.bgp_attr.specs.Attributes.{attribute_size, has_long_length, header_size};
 ghost use Rattle.bgp_attr.specs.Walks.{attributes_from, found};
 ghost use Rattle.bgp_attr.specs.Shown.{shown};
@@ -105,10 +105,10 @@ impl<'a> Attrs<'a> {
     }
 
     /// The next attribute. After an overrun nothing comes any more.
-    #[tactic(auto, using(crate::proofs::Walking::attributes_some, crate::proofs::Walking::attributes_overrun, crate::proofs::Walking::attributes_nil, crate::proofs::Walking::attributes_empty))]
+    #[tactic(auto, using(crate::proofs::Walking::attributes_some, crate::proofs::Walking::attributes_overrun, crate::proofs::Walking::attributes_nil))]
     pub fn next(&mut self) -> Option<Result<Attr<'a>, Overrun>>
-        ensures coming { self.old ≡ option_to_list (option_map shown result) ++ self.new }
-        ensures end { IfNone result (self.old ≡ []) }
+        ensures item { IfSome result (λ r. self.old ≡ shown r ∷ self.new) }
+        ensures end { IfNone result ((self.old ≡ []) × (self.new ≡ [])) }
     {
         if self.rest.is_empty() {
             return None;

@@ -1,5 +1,5 @@
 // The segments of an AS path, one after another, and calls on the whole path.
-ghost use Rattle.std.specs.Prelude.{◌≡◌, ℕ, ◌≤◌, ◌+◌, ◌++◌, ◌∷◌, ◌||◌, [], true, IfNone, IfSome, MatchOption, is_some, length, option_map, option_to_list, nat_le, if◌then◌else◌};
+ghost use Rattle.std.specs.Prelude.{◌≡◌, ℕ, ◌≤◌, ◌+◌, ◌++◌, ◌∷◌, ◌||◌, [], true, IfNone, IfSome, MatchOption, is_some, length, nat_le, if◌then◌else◌};
 ghost use Rattle.bgp_attr.specs.Paths.{path_ok as is_path, number_octets, path as path_in, path_octets, prepend, hops as path_hops, contains as path_contains, leftmost as path_leftmost};
 ghost use Rattle.bgp_path.specs.Parts.{walk_over, path_of, prepended, width_of};
 ghost use Rattle.bgp_path.specs.Fronts.{WritesFront};
@@ -118,8 +118,8 @@ impl<'a> Segments<'a> {
 
     /// The next segment.
     pub fn next(&mut self) -> Option<Segment<'a>>
-        ensures coming { self.old.coming ≡ option_to_list (option_map shown result) ++ self.new.coming }
-        ensures end { IfNone result (self.old.coming ≡ []) }
+        ensures item { IfSome result (λ s. self.old.coming ≡ shown s ∷ self.new.coming) }
+        ensures end { IfNone result ((self.old.coming ≡ []) × (self.new.coming ≡ [])) }
         ensures whole { self.new ≡ record self.old { coming = self.new.coming } }
     {
         let (segment, rest) = split_first(self.rest, self.wide)?;
