@@ -8,8 +8,10 @@
 #![tactic(auto)]
 
 mod buf;
+mod header;
 pub mod laws;
 mod memory;
+mod notice;
 mod page;
 mod prefix;
 mod real;
@@ -17,7 +19,9 @@ mod shelf;
 mod text;
 
 pub use buf::Buf;
+pub use header::{HeaderFault, fault_in_header};
 pub use memory::{MemShelf, MemSink};
+pub use notice::Notice;
 pub use page::gather;
 pub use prefix::Prefix;
 pub use real::{FileShelf, StdSink};
