@@ -1,3 +1,4 @@
 mod InputLemmas
+mod JudgeLemmas
 mod OutputLemmas
 mod TopLemmas

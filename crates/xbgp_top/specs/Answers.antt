@@ -3,11 +3,18 @@ use Rattle.std.specs.Prelude.{ℕ, List, [], ◌∷◌, ◌++◌, length, flat_m
 use Rattle.xb_base.specs.Causes.{Files, file_named}
 use Rattle.xb_base.specs.Prefixes.{Prefix, Sections}
 use Rattle.xb_base.specs.Texts.{line, prefix_text, hex_text}
+use Rattle.xb_base.specs.Messages.{split}
 use Rattle.bgp_update.specs.Heard.{heard}
+use Rattle.bgp_update.specs.Walks.{Found, found}
+use Rattle.bgp_check.specs.Judgement.{judge}
+use Rattle.xb_words.specs.Cut.{placed}
+use Rattle.std.specs.List.{concat}
 use Rattle.xbgp_top.specs.declared.status.File.TheVariants.{Input}
 use Rattle.xbgp_top.specs.declared.status.Status.{Status}
 use Rattle.xbgp_top.specs.declared.status.Status.TheVariants.{Done, Usage, ReadFault, TooLong, BadStream}
-use Rattle.xbgp_top.specs.Commands.{Command, hear, command_of}
+use Rattle.xbgp_top.specs.declared.command.Job.{Job}
+use Rattle.xbgp_top.specs.declared.command.Job.TheVariants.{Heard, Judge}
+use Rattle.xbgp_top.specs.Commands.{Command, on_file, command_of}
 
 pub record Answer : Type 0 where
   pub status : Status
@@ -53,8 +60,42 @@ table_lines table = flat_map heard_line table
 abbrev pub heard_answer : List ℕ → Answer
 heard_answer octets = elim (heard octets) [ Ok table ↦ answered Done (table_lines table ++ end_line) | Err at ↦ bad_stream at ]
 
+-- the messages of a stream, each with its place
+abbrev pub messages_of : List ℕ → List Found
+messages_of s = map (λ m. found m.0 m.1) (placed 0 (split s).items)
+
+-- the place of what is left of a stream behind its messages, if anything is
+abbrev pub place_of_rest : List ℕ → Option ℕ
+place_of_rest s = if length (split s).rest == 0 then None else Some (length (concat (split s).items))
+
+-- what is said of a message: an UPDATE is clean or gets a notification, another kind is not judged
+abbrev pub verdict : Found → List (List ℕ)
+verdict m =
+    if m.kind == 2 then
+      elim (judge 2 m.body) as (λ o. List (List ℕ)) [
+        | None ↦ codes "clean" ∷ []
+        | Some n ↦ codes "notice" ∷ decimal n.code ∷ decimal n.subcode ∷ hex_text n.extra ∷ []
+      ]
+    else codes "other" ∷ []
+
+abbrev pub judge_line : Found → List ℕ
+judge_line m = line (decimal m.at ∷ verdict m)
+
+-- a line for each message of a stream, or the place of what is left behind them
+abbrev pub judge_answer : List ℕ → Answer
+judge_answer octets =
+    elim (place_of_rest octets) as (λ o. Answer) [
+      | None ↦ answered Done (flat_map judge_line (messages_of octets) ++ end_line)
+      | Some at ↦ bad_stream at
+    ]
+
+-- what is asked about the octets of one file
+abbrev pub job_answer : Job → List ℕ → Answer
+job_answer Heard octets = heard_answer octets
+job_answer Judge octets = judge_answer octets
+
 unfoldable pub command_answer : Command → Files → Answer
-command_answer (hear name) files = with_input files name heard_answer
+command_answer (on_file job name) files = with_input files name (job_answer job)
 
 -- words that are no command are bad usage
 unfoldable pub answer : List (List ℕ) → Files → Answer

@@ -1,14 +1,20 @@
 -- The commands of the program, by the words of the command line (this project's own).
 use Rattle.std.specs.Prelude.{ℕ, List, [], ◌∷◌, Option, Some, None, codes, if◌then◌else◌}
+use Rattle.std.specs.Option.{option_map}
 use Rattle.std.specs.Str.{bytes_eq}
+use Rattle.xbgp_top.specs.declared.command.Job.{Job}
+use Rattle.xbgp_top.specs.declared.command.Job.TheVariants.{Heard, Judge}
 
 pub data Command : Type 0 where
-  hear : List ℕ → Command
+  on_file : Job → List ℕ → Command
 
--- a command's word with one word behind it
-abbrev pub with_one : List ℕ → List ℕ → Option Command
-with_one word a = if bytes_eq word (codes "heard") then Some (hear a) else None
+-- what is asked about one file
+abbrev pub job_of : List ℕ → Option Job
+job_of word =
+    if bytes_eq word (codes "heard") then Some Heard
+    else if bytes_eq word (codes "judge") then Some Judge
+    else None
 
 abbrev pub command_of : List (List ℕ) → Option Command
-command_of (word ∷ a ∷ []) = with_one word a
+command_of (word ∷ name ∷ []) = option_map (λ job. on_file job name) (job_of word)
 command_of words = None

@@ -5,3 +5,4 @@ pub mod Inputs
 pub mod Outputs
 pub mod Top
 pub mod Shown
+pub mod Met

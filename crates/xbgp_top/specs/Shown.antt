@@ -1,7 +1,7 @@
 -- A command without the place of its words in memory.
-use Rattle.xbgp_top.specs.declared.entry.Command as lent
-use Rattle.xbgp_top.specs.declared.entry.Command.TheVariants.{Heard}
-use Rattle.xbgp_top.specs.Commands.{Command, hear}
+use Rattle.xbgp_top.specs.declared.command.Command as lent
+use Rattle.xbgp_top.specs.declared.command.Command.TheVariants.{File}
+use Rattle.xbgp_top.specs.Commands.{Command, on_file}
 
 abbrev pub shown : lent.Command → Command
-shown (Heard name) = hear name.now
+shown (File job name) = on_file job name.now

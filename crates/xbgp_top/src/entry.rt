@@ -1,38 +1,42 @@
 ghost use Rattle.std.specs.Prelude.{◌≡◌, ◌≢◌, ◌≤◌, ◌⊎◌, Some, map, string_bytes};
-ghost use Rattle.std.specs.Option.{option_map};
 ghost use Rattle.xb_base.specs.Causes.{Files, Rose, TookFront};
-ghost use Rattle.xbgp_top.specs.Answers.{answer};
-ghost use Rattle.xbgp_top.specs.Commands.{command_of, hear};
-ghost use Rattle.xbgp_top.specs.Shown.{shown};
+ghost use Rattle.xbgp_top.specs.Answers.{answer, job_answer};
+ghost use Rattle.xbgp_top.specs.Commands.{command_of, on_file};
+ghost use Rattle.xbgp_top.specs.Outputs.{Writes};
 ghost use Rattle.xbgp_top.specs.Top.{Explains, IsAnswered, IsUsage, SaysMissing, told_answer};
 
+use crate::command::{Command, Job, command_in};
 use crate::input::{Input, read_input};
-use crate::output::{print_heard, say};
+use crate::hear::print_heard;
+use crate::judge::print_judged;
+use crate::output::say;
 use crate::{File, Status};
 use std::alloc::Global;
 use xb_base::{Shelf, Sink};
 
-// What the words of the command line ask for.
-#[derive(Clone, Copy, Debug)]
-pub(crate) enum Command<'a> {
-    Heard(&'a str),
-}
-
-fn command_in(words: &[String]) -> Option<Command<'_>>
-    ensures { option_map shown result ≡ command_of (map string_bytes words.now) }
+// Answers what is asked about octets that were read.
+fn print_job<K: Sink>(alloc: Global, job: Job, octets: &[u8], sink: &mut K) -> Status
+    ensures { Writes (job_answer job octets.now) (K.took sink.old) (K.took sink.new) (K.faults sink.old) (K.faults sink.new) result }
 {
-    match words {
-        [word, name] if word.as_str() == "heard" => Some(Command::Heard(name.as_str())),
-        _ => None,
+    match job {
+        Job::Heard => print_heard(alloc, octets, sink),
+        Job::Judge => print_judged(alloc, octets, sink),
     }
 }
 
-fn heard_file<S: Shelf, K: Sink>(alloc: Global, name: &str, shelf: &mut S, sink: &mut K) -> Status
-    ensures explains { Explains (told_answer (Some (hear name.now)) (S.held shelf.old)) (S.faults shelf.old) (S.faults shelf.new) (K.faults sink.old) (K.faults sink.new) (K.took sink.old) (K.took sink.new) result }
+// Reads a file and answers what is asked about it.
+fn ask_file<S: Shelf, K: Sink>(
+    alloc: Global,
+    job: Job,
+    name: &str,
+    shelf: &mut S,
+    sink: &mut K,
+) -> Status
+    ensures explains { Explains (told_answer (Some (on_file job name.now)) (S.held shelf.old)) (S.faults shelf.old) (S.faults shelf.new) (K.faults sink.old) (K.faults sink.new) (K.took sink.old) (K.took sink.new) result }
     ensures command { result ≢ Status.Usage }
 {
     match read_input(alloc, shelf, name) {
-        Input::Octets(octets) => print_heard(alloc, &octets, sink),
+        Input::Octets(octets) => print_job(alloc, job, &octets, sink),
         Input::Long => say(sink, b"fault long input\n", Status::TooLong(File::Input)),
         Input::Fault => Status::ReadFault,
         Input::OutOfMemory => Status::OutOfMemory,
@@ -46,7 +50,7 @@ fn obey<S: Shelf, K: Sink>(alloc: Global, words: &[String], shelf: &mut S, sink:
 {
     match command_in(words) {
         None => say(sink, b"fault usage\n", Status::Usage),
-        Some(Command::Heard(name)) => heard_file(alloc, name, shelf, sink),
+        Some(Command::File(job, name)) => ask_file(alloc, job, name, shelf, sink),
     }
 }
 

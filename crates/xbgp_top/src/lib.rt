@@ -4,8 +4,11 @@
 //! held: a status and a text. `run` gives that answer over any shelf and any sink, and each other answer only with its cause.
 #![tactic(auto)]
 
+mod command;
 mod entry;
+mod hear;
 mod input;
+mod judge;
 mod output;
 mod status;
 

@@ -2,7 +2,7 @@ use Rattle.std.proofs.Common.{rules, ◌≡◌, [], ◌++◌}
 use Rattle.xbgp_top.specs.Answers.{table_lines, end_line}
 use Rattle.xbgp_top.specs.declared.status.Status.TheVariants.{Done}
 use Rattle.xbgp_top.proofs.OutputLemmas.{puts_the_page}
-use Rattle.xbgp_top.proofs.output.print_table.Goals as goal
+use Rattle.xbgp_top.proofs.hear.print_table.Goals as goal
 
 pub returns-in-Ok-gather_answer : goal.returns-in-Ok-gather_answer
 returns-in-Ok-gather_answer g c =

@@ -1,6 +1,6 @@
 use Rattle.std.proofs.Common.{sym, ◌∙◌}
 use Rattle.xbgp_top.proofs.OutputLemmas.{line_done, line_stops, fewer_behind}
-use Rattle.xbgp_top.proofs.output.gather_table.Goals as goal
+use Rattle.xbgp_top.proofs.hear.gather_table.Goals as goal
 
 pub entries-smaller : goal.entries-smaller
 entries-smaller g c = fewer_behind c.args.table.now c.entries.last (c.in-Some.entry.0, c.in-Some.entry.1.now) c.in-Some.ensures.rising (sym c.in-Some.ensures.entry)

@@ -3,7 +3,7 @@ use Rattle.xb_words.specs.Table.{behind}
 use Rattle.xb_base.specs.Pages.{Gathered}
 use Rattle.xb_base.specs.Prefixes.{prefix_cmp}
 use Rattle.xbgp_top.specs.Answers.{table_lines}
-use Rattle.xbgp_top.proofs.output.gather_table.Given as goal
+use Rattle.xbgp_top.proofs.hear.gather_table.Given as goal
 
 -- the lines so far are gathered, and those of the entries behind the last one are still to come
 abbrev pub invariant-entries : goal.invariant-entries

@@ -1,0 +1,48 @@
+-- The verdicts that are still to come in a walk over messages, and where the walk is refused.
+use Rattle.std.proofs.Common.{◌≡◌, ℕ, ◌+◌, Bool, true, false, List, [], ◌∷◌, ◌++◌, length, map, flat_map, Option, Some, None, Result, Ok, Err, if◌then◌else◌, refl, sym, ◌∙◌, ap, arith, length-append}
+use Rattle.std.specs.Prelude.{◌==◌}
+use Rattle.std.specs.List.{concat}
+use Rattle.std.proofs.Math.Dec.{eqb-suc-zero}
+use Rattle.xb_words.specs.Cut.{walk, walk_from, placed}
+use Rattle.xb_base.specs.Messages.{split}
+use Rattle.bgp_update.specs.Walks.{Found, found, messages_from}
+use Rattle.xbgp_top.specs.Answers.{judge_line, messages_of, place_of_rest}
+
+-- where the walk is refused, if it is
+abbrev pub rest_of : List (Result Found ℕ) → Option ℕ
+rest_of [] = None
+rest_of (Err at ∷ ms) = Some at
+rest_of (Ok m ∷ ms) = rest_of ms
+
+abbrev ends_at : List ℕ → ℕ → Option ℕ
+ends_at rest end = if length rest == 0 then None else Some end
+
+rest_of_walk : (at : ℕ) (items : List (List ℕ)) (rest : List ℕ) → rest_of (walk found (λ i. i) at items rest) ≡ ends_at rest (at + length (concat items))
+rest_of_walk at [] [] = refl
+rest_of_walk at [] (b ∷ rest) =
+    let here : at ≡ at + 0 = omega arith in
+    ap Some here ∙ ap (λ k. if k then None else Some (at + 0)) (sym (eqb-suc-zero (length rest)))
+rest_of_walk at (m ∷ items) rest =
+    let end : at + length m + length (concat items) ≡ at + length (m ++ concat items) = omega (arith, length-append m (concat items)) in
+    rest_of_walk (at + length m) items rest ∙ ap (ends_at rest) end
+
+pub first_rest : (s : List ℕ) → rest_of (messages_from 0 s) ≡ place_of_rest s
+unfolding walk_from
+first_rest s =
+    let from : 0 + length (concat (split s).items) ≡ length (concat (split s).items) = omega arith in
+    rest_of_walk 0 (split s).items (split s).rest ∙ ap (ends_at (split s).rest) from
+
+-- the lines of the messages that are still to come
+abbrev pub lines_of : List (Result Found ℕ) → List ℕ
+lines_of [] = []
+lines_of (Err at ∷ ms) = []
+lines_of (Ok m ∷ ms) = judge_line m ++ lines_of ms
+
+lines_of_walk : (at : ℕ) (items : List (List ℕ)) (rest : List ℕ) → lines_of (walk found (λ i. i) at items rest) ≡ flat_map judge_line (map (λ m. found m.0 m.1) (placed at items))
+lines_of_walk at [] [] = refl
+lines_of_walk at [] (b ∷ rest) = refl
+lines_of_walk at (m ∷ items) rest = ap (λ l. judge_line (found at m) ++ l) (lines_of_walk (at + length m) items rest)
+
+pub all_lines : (s : List ℕ) → lines_of (messages_from 0 s) ≡ flat_map judge_line (messages_of s)
+unfolding walk_from
+all_lines s = lines_of_walk 0 (split s).items (split s).rest

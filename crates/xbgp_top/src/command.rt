@@ -1,0 +1,42 @@
+ghost use Rattle.std.specs.Prelude.{◌≡◌, map, string_bytes};
+ghost use Rattle.std.specs.Option.{option_map};
+ghost use Rattle.xbgp_top.specs.Commands.{command_of, job_of};
+ghost use Rattle.xbgp_top.specs.Shown.{shown};
+
+/// What is asked about one file that is read whole.
+#[derive(Clone, Copy, Debug, PartialEq, Eq)]
+pub(crate) enum Job {
+    Heard,
+    Judge,
+}
+
+/// What the words of the command line ask for.
+#[derive(Clone, Copy, Debug)]
+pub(crate) enum Command<'a> {
+    File(Job, &'a str),
+}
+
+fn job_in(word: &str) -> Option<Job>
+    ensures { result ≡ job_of word.now }
+{
+    if word == "heard" {
+        Some(Job::Heard)
+    } else if word == "judge" {
+        Some(Job::Judge)
+    } else {
+        None
+    }
+}
+
+/// The command that the words are.
+pub(crate) fn command_in(words: &[String]) -> Option<Command<'_>>
+    ensures { option_map shown result ≡ command_of (map string_bytes words.now) }
+{
+    match words {
+        [word, name] => match job_in(word.as_str()) {
+            Some(job) => Some(Command::File(job, name.as_str())),
+            None => None,
+        },
+        _ => None,
+    }
+}
