@@ -1,8 +1,8 @@
-//! Runs two programs in turn as `PROGRAM heard FILE` and prints the median time and the peak memory of each.
+//! Runs two programs in turn as `PROGRAM COMMAND FILE` and prints the median time and the peak memory of each.
 //!
-//! `measure LABEL ROUNDS FILE PROGRAM YARDSTICK`. A round is REPEATS runs of each program, one after the other in turn, and
-//! its time is their median; the time that is printed is the median of the rounds. Whole processes are measured, from
-//! before their start to after their end. What they write goes to /dev/null.
+//! `measure LABEL ROUNDS PROGRAM YARDSTICK COMMAND FILE`. A round is REPEATS runs of each program, one after the other in
+//! turn, and its time is their median; the time that is printed is the median of the rounds. Whole processes are measured,
+//! from before their start to after their end. What they write goes to /dev/null.
 //!
 //! Peak memory is the largest resident set, as the system counts it; it is never under this small program's own.
 
@@ -31,9 +31,9 @@ struct Run {
     peak_kib: i64,
 }
 
-fn run_once(program: &str, file: &str) -> io::Result<Run> {
+fn run_once(program: &str, words: [&str; 2]) -> io::Result<Run> {
     let mut command = Command::new(program);
-    command.args(["heard", file]);
+    command.args(words);
     command.stdin(Stdio::null()).stdout(Stdio::null());
     let (mut status, mut usage) = (0, Usage::default());
     let began = Instant::now();
@@ -81,13 +81,13 @@ impl Measured {
     }
 }
 
-fn measure(rounds: usize, file: &str, programs: [&str; 2]) -> io::Result<[Measured; 2]> {
+fn measure(rounds: usize, programs: [&str; 2], words: [&str; 2]) -> io::Result<[Measured; 2]> {
     let mut measured = [Measured::default(), Measured::default()];
     for _ in 0..rounds {
         let mut runs = [Vec::new(), Vec::new()];
         for _ in 0..REPEATS {
             for (program, runs) in programs.into_iter().zip(&mut runs) {
-                runs.push(run_once(program, file)?);
+                runs.push(run_once(program, words)?);
             }
         }
         for (measured, runs) in measured.iter_mut().zip(&runs) {
@@ -100,15 +100,15 @@ fn measure(rounds: usize, file: &str, programs: [&str; 2]) -> io::Result<[Measur
 fn main() -> ExitCode {
     let words: Vec<String> = env::args().skip(1).collect();
     let words: Vec<&str> = words.iter().map(String::as_str).collect();
-    let [label, rounds, file, program, yardstick] = words[..] else {
-        eprintln!("usage: measure LABEL ROUNDS FILE PROGRAM YARDSTICK");
+    let [label, rounds, program, yardstick, command, file] = words[..] else {
+        eprintln!("usage: measure LABEL ROUNDS PROGRAM YARDSTICK COMMAND FILE");
         return ExitCode::from(2);
     };
     let Ok(rounds @ 1..) = rounds.parse() else {
         eprintln!("measure: no number of rounds: {rounds}");
         return ExitCode::from(2);
     };
-    match measure(rounds, file, [program, yardstick]) {
+    match measure(rounds, [program, yardstick], [command, file]) {
         Ok([ours, theirs]) => {
             println!(
                 "{label} xbgp {:.2} ms, yardstick {:.2} ms, ratio {:.2}, peak memory {} KiB and {} KiB",
