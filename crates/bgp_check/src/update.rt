@@ -1,0 +1,50 @@
+// The checks of the body of an UPDATE.
+ghost use Rattle.std.specs.Prelude.{◌≡◌, Some, None, IfOk, IfErr};
+ghost use Rattle.xb_base.specs.Messages.{update_of};
+ghost use Rattle.xb_base.specs.Notices.{said};
+ghost use Rattle.xb_base.specs.Prefixes.{are_prefixes as are_prefixes_of};
+ghost use Rattle.bgp_update.specs.Joins.{Joins};
+ghost use Rattle.bgp_check.specs.Judgement.{judge};
+
+use crate::notices;
+use crate::section::check_section;
+use bgp_update::{Prefixes, UpdateView};
+use xb_base::Notice;
+
+// Whether octets are whole prefixes to the end.
+#[tactic(auto, using(crate::proofs::Steps::all_whole_prefixes))]
+fn are_prefixes(octets: &[u8]) -> bool
+    ensures { result ≡ are_prefixes_of octets.now }
+{
+    let mut prefixes = Prefixes::new(octets);
+    'prefixes: while let Some(next) = prefixes.next() {
+        if next.is_err() {
+            return false;
+        }
+    }
+    true
+}
+
+/// The parts of an UPDATE's body, or its first fault. The data of a fault is a part of the body, but for a missing
+/// attribute, where it is that attribute's code.
+#[tactic(auto, unfolding(crate::specs::Judgement::judge))]
+pub fn check_update<'a>(body: &'a [u8]) -> Result<UpdateView<'a>, Notice<'a>>
+    ensures fault { IfErr result (λ n. judge 2 body.now ≡ Some (said n)) }
+    ensures accepted { IfOk result (λ u. judge 2 body.now ≡ None) }
+    ensures parts { IfOk result (λ u. update_of body.now ≡ Some u) }
+    ensures joins { IfOk result (Joins body.now) }
+{
+    let Some(update) = UpdateView::new(body) else {
+        return Err(notices::malformed());
+    };
+    if !are_prefixes(update.withdrawn()) {
+        return Err(notices::bad_prefix());
+    }
+    if let Some(notice) = check_section(update.section(), !update.nlri().is_empty()) {
+        return Err(notice);
+    }
+    if !are_prefixes(update.nlri()) {
+        return Err(notices::bad_prefix());
+    }
+    Ok(update)
+}
