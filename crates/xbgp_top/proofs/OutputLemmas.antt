@@ -22,7 +22,7 @@ more_to_come before now whole page text g =
           ∙ sym (append_assoc g.taken page text) ∙ ap (λ l. l ++ text) (ap (λ l. g.taken ++ l) (sym (append-nil page)) ∙ g.joins);
     }
 
-stops_behind : (before now later : Option (List ℕ)) (whole page part rest : List ℕ) (f g h : ℕ) (status : Status)
+pub stops_behind : (before now later : Option (List ℕ)) (whole page part rest : List ℕ) (f g h : ℕ) (status : Status)
     → Gathered before now whole page (part ++ rest) → g ≡ f → Stops now later (page ++ part) g h status → Stops before later whole f h status
 stops_behind before now later whole page part rest f g h status so_far quiet s =
     record {

@@ -71,13 +71,13 @@ long_is_told job (Some files) name long =
 pub is_of_octets : (job : Job) (octets : List ℕ) → ((job_answer job octets).status ≢ ReadFault) × ((job_answer job octets).status ≢ Usage)
 is_of_octets Heard octets =
     elim (heard octets) as (λ r. ((elim r as (λ x. Answer) [ Ok table ↦ answered Done (table_lines table ++ end_line) | Err at ↦ bad_stream at ]).status ≢ ReadFault)
-      × ((elim r as (λ x. Answer) [ Ok table ↦ answered Done (table_lines table ++ end_line) | Err at ↦ bad_stream at ]).status ≢ Usage)) [
+    × ((elim r as (λ x. Answer) [ Ok table ↦ answered Done (table_lines table ++ end_line) | Err at ↦ bad_stream at ]).status ≢ Usage)) [
       | Ok table ↦ (λ e. cc e, λ e. cc e)
       | Err at ↦ (λ e. cc e, λ e. cc e)
     ]
 is_of_octets Judge octets =
     elim (place_of_rest octets) as (λ o. ((elim o as (λ x. Answer) [ None ↦ answered Done (flat_map judge_line (messages_of octets) ++ end_line) | Some at ↦ bad_stream at ]).status ≢ ReadFault)
-      × ((elim o as (λ x. Answer) [ None ↦ answered Done (flat_map judge_line (messages_of octets) ++ end_line) | Some at ↦ bad_stream at ]).status ≢ Usage)) [
+    × ((elim o as (λ x. Answer) [ None ↦ answered Done (flat_map judge_line (messages_of octets) ++ end_line) | Some at ↦ bad_stream at ]).status ≢ Usage)) [
       | None ↦ (λ e. cc e, λ e. cc e)
       | Some at ↦ (λ e. cc e, λ e. cc e)
     ]

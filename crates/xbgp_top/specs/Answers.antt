@@ -1,5 +1,5 @@
 -- The answer to the words of a command line: a status and a text, from the files that are held (this project's own).
-use Rattle.std.specs.Prelude.{ℕ, List, [], ◌∷◌, ◌++◌, length, flat_map, Some, None, Ok, Err, codes, decimal, nat_lt, if◌then◌else◌}
+use Rattle.std.specs.Prelude.{ℕ, List, [], ◌∷◌, ◌++◌, length, map, flat_map, ◌==◌, Option, Some, None, Ok, Err, codes, decimal, nat_lt, if◌then◌else◌}
 use Rattle.xb_base.specs.Causes.{Files, file_named}
 use Rattle.xb_base.specs.Prefixes.{Prefix, Sections}
 use Rattle.xb_base.specs.Texts.{line, prefix_text, hex_text}
@@ -72,10 +72,10 @@ place_of_rest s = if length (split s).rest == 0 then None else Some (length (con
 abbrev pub verdict : Found → List (List ℕ)
 verdict m =
     if m.kind == 2 then
-      elim (judge 2 m.body) as (λ o. List (List ℕ)) [
-        | None ↦ codes "clean" ∷ []
-        | Some n ↦ codes "notice" ∷ decimal n.code ∷ decimal n.subcode ∷ hex_text n.extra ∷ []
-      ]
+    elim (judge 2 m.body) as (λ o. List (List ℕ)) [
+      | None ↦ codes "clean" ∷ []
+      | Some n ↦ codes "notice" ∷ decimal n.code ∷ decimal n.subcode ∷ hex_text n.extra ∷ []
+    ]
     else codes "other" ∷ []
 
 abbrev pub judge_line : Found → List ℕ

@@ -6,8 +6,8 @@ ghost use Rattle.xbgp_top.specs.Outputs.{Writes};
 ghost use Rattle.xbgp_top.specs.Top.{Explains, IsAnswered, IsUsage, SaysMissing, told_answer};
 
 use crate::command::{Command, Job, command_in};
-use crate::input::{Input, read_input};
 use crate::hear::print_heard;
+use crate::input::{Input, read_input};
 use crate::judge::print_judged;
 use crate::output::say;
 use crate::{File, Status};

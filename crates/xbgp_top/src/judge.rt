@@ -28,12 +28,7 @@ fn refused_at(octets: &[u8]) -> Option<usize>
 }
 
 // Writes a place and a short word.
-fn write_word(
-    alloc: Global,
-    line: &mut Buf,
-    at: usize,
-    word: &[u8],
-) -> Result<(), AllocError>
+fn write_word(alloc: Global, line: &mut Buf, at: usize, word: &[u8]) -> Result<(), AllocError>
     requires { length word.now ≤ 20 }
     ensures { OnOk result (line.new.octets ≡ line_of (decimal at ∷ word.now ∷ [])) }
 {

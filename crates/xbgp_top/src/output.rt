@@ -65,4 +65,3 @@ pub(crate) fn gather_text<K: Sink>(page: &mut Buf, text: &[u8], sink: &mut K) ->
         Err(_) => Err(Status::WriteFault),
     }
 }
-

@@ -144,6 +144,51 @@ fn refusals_are_named(rt: HostRuntime) -> Result<(), Fail> {
     Ok(())
 }
 
+#[test]
+fn messages_are_judged(rt: HostRuntime) -> Result<(), Fail> {
+    let alloc = rt.alloc();
+    let twice = [0, 0, 0, 8, 0x40, 1, 1, 0, 0x40, 1, 1, 9];
+    let no_next_hop = [
+        0, 0, 0, 11, 0x40, 1, 1, 0, 0x40, 2, 4, 2, 1, 0xfd, 0xe9, 8, 10,
+    ];
+    let mut full = Vec::from_slice(alloc, &[0, 0, 0x0f, 0xe9, 0xd0, 0xc8, 0x0f, 0xe5])?;
+    full.extend_from_slice(&zeros(alloc, 4_069)?)?;
+    for (body, text) in [
+        ([0, 0, 0, 0].as_slice(), "0 clean\nend\n"),
+        (twice.as_slice(), "0 notice 3 1 -\nend\n"),
+        (no_next_hop.as_slice(), "0 notice 3 3 03\nend\n"),
+        (&no_next_hop[..15], "0 clean\nend\n"),
+        (full.as_slice(), "0 clean\nend\n"),
+        (
+            [0, 0, 0, 4, 0x80, 1, 1, 0].as_slice(),
+            "0 notice 3 4 80010100\nend\n",
+        ),
+        (
+            [0, 0, 0, 5, 0x40, 2, 2, 2, 0].as_slice(),
+            "0 notice 3 11 -\nend\n",
+        ),
+    ] {
+        let (status, written) = answer(alloc, &["judge", "x"], &message(alloc, 2, body)?, 0)?;
+        assert_eq!(rt; status, Status::Done, "for {text}");
+        assert_eq!(rt; written.as_slice(), text.as_bytes());
+    }
+
+    let mut stream = message(alloc, 4, &[])?;
+    stream.extend_from_slice(&message(alloc, 2, &twice)?)?;
+    let (status, written) = answer(alloc, &["judge", "x"], &stream, 0)?;
+    assert_eq!(rt; status, Status::Done);
+    assert_eq!(rt;
+        written.as_slice(),
+        b"0 other\n19 notice 3 1 -\nend\n".as_slice()
+    );
+
+    let _ = stream.pop();
+    let (status, written) = answer(alloc, &["judge", "x"], &stream, 0)?;
+    assert_eq!(rt; status, Status::BadStream(19));
+    assert_eq!(rt; written.as_slice(), b"fault stream 19\n".as_slice());
+    Ok(())
+}
+
 // Where an allocation is made to fail, the set-up fails by itself, or the answer is want of memory with a front of the text.
 #[test]
 fn want_of_memory_leaves_a_front(rt: HostRuntime) -> Result<(), Fail> {

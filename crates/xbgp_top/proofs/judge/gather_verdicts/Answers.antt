@@ -1,0 +1,20 @@
+use Rattle.std.proofs.Common.{rules, ◌≡◌, ◌∷◌, Ok, refl, ◌∙◌}
+use Rattle.xbgp_top.specs.Met.{met}
+use Rattle.xbgp_top.proofs.JudgeLemmas.{all_to_come, verdict_done, verdict_stops}
+use Rattle.xbgp_top.proofs.judge.gather_verdicts.Goals as goal
+
+pub messages-init : goal.messages-init
+messages-init g c = record { gathered = all_to_come _ c.args.page.now.octets c.args.octets.now _ c.new-messages.ensures; quiet = refl }
+
+pub messages-preserved : goal.messages-preserved
+messages-preserved g c =
+    let item : c.messages.messages ≡ Ok (met c.in-Ok-next.message) ∷ c.next.new.self = search rules in
+    record {
+      gathered = verdict_done _ _ _ _ _ _ c.messages.messages c.next.new.self (met c.in-Ok-next.message) item c.messages.invariant.gathered c.in-Ok-gather_verdict.ensures.0;
+      quiet = c.in-Ok-gather_verdict.ensures.1 ∙ c.messages.invariant.quiet;
+    }
+
+pub returns-in-Err : goal.returns-in-Err
+returns-in-Err g c =
+    let item : c.messages.messages ≡ Ok (met c.in-Ok-next.message) ∷ c.next.new.self = search rules in
+    verdict_stops _ _ _ _ _ c.messages.messages c.next.new.self (met c.in-Ok-next.message) _ _ _ c.in-Err.status item c.messages.invariant.gathered c.messages.invariant.quiet c.in-Err.ensures
