@@ -1,5 +1,5 @@
 -- The set with one code more.
-use Rattle.std.proofs.Common.{◌≡◌, inl, inr, sym, ap, ◌∙◌, ℕ, ◌/◌, ◌%◌, ◌*◌, ◌^◌, ◌<◌, true, false, List, length, arith}
+use Rattle.std.proofs.Common.{◌≡◌, inl, inr, sym, ap, ◌∙◌, ℕ, ◌/◌, ◌%◌, ◌*◌, ◌^◌, ◌<◌, List, length, arith}
 use Rattle.std.specs.Prelude.{slice_index, slice_set, bit_or, ◌==◌, ◌||◌}
 use Rattle.std.specs.Int.{bit_at, w64}
 use Rattle.std.proofs.lemmas.Bool.{eq-eqb, ne_eqb}

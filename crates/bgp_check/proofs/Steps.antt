@@ -1,5 +1,5 @@
 -- Walks over attributes and over prefixes, step by step, make the judgement.
-use Rattle.std.proofs.Common.{◌≡◌, refl, sym, ap, ◌∙◌, ℕ, ◌+◌, ◌<◌, Bool, true, false, not, ◌&&◌, ◌||◌, List, [], ◌∷◌, length, map, Option, Some, None, Result, Ok, Err, if◌then◌else◌, option_map, is_none, arith}
+use Rattle.std.proofs.Common.{◌≡◌, refl, sym, ap, ◌∙◌, ℕ, ◌+◌, ◌<◌, Bool, true, false, not, ◌||◌, List, [], ◌∷◌, length, map, Option, Some, None, Result, Ok, Err, if◌then◌else◌, option_map, is_none, arith}
 use Rattle.std.specs.Prelude.{◌==◌}
 use Rattle.std.proofs.Math.Bool.{or-true, or-false}
 use Rattle.std.proofs.Math.Dec.{eqb-suc-zero}
@@ -10,7 +10,7 @@ use Rattle.xb_words.specs.Optional.{or_else}
 use Rattle.xb_base.specs.Messages.{Notification}
 use Rattle.xb_base.specs.Prefixes.{Prefix, prefix_at, prefix_size, are_prefixes}
 use Rattle.bgp_attr.specs.declared.attrs.Overrun.{Overrun}
-use Rattle.bgp_attr.specs.Attributes.{attribute_size, attributes, code_of, codes_of, is_whole}
+use Rattle.bgp_attr.specs.Attributes.{attribute_size, attributes, code_of, codes_of}
 use Rattle.bgp_attr.specs.Rules.{attr_fault}
 use Rattle.bgp_attr.specs.Walks.{Found, found, overrun, attributes_from}
 use Rattle.bgp_update.specs.Walks.{prefixes_from}

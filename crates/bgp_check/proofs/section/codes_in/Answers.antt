@@ -1,9 +1,7 @@
-use Rattle.std.proofs.Common.{rules, ◌≡◌, ◌<◌, [], ◌∷◌, true, Ok, Err, List, Result, sym, subst, arith}
-use Rattle.bgp_attr.specs.declared.attrs.Overrun.{Overrun}
-use Rattle.bgp_attr.specs.Walks.{Found, attributes_from, overrun}
+use Rattle.std.proofs.Common.{rules, ◌≡◌, ◌<◌, [], ◌∷◌, true, Ok, Err}
 use Rattle.bgp_attr.specs.Shown.{shown}
 use Rattle.bgp_check.specs.Codes.{holds}
-use Rattle.bgp_check.proofs.Steps.{Gathers, gathered_overrun, gathered_twice, gathered_all}
+use Rattle.bgp_check.proofs.Steps.{gathered_overrun, gathered_twice, gathered_all}
 use Rattle.bgp_check.proofs.section.codes_in.Goals as goal
 
 pub returns-in_default-step-clause-malformed : goal.returns-in_default-step-clause-malformed
