@@ -1,6 +1,6 @@
 -- Numbers and their octets, the lowest first.
-use Rattle.std.proofs.Common.{◌≡◌, refl, sym, ap, ◌∙◌, ℕ, zero, suc, ◌+◌, ◌-◌, ◌*◌, ◌≤◌, ◌<◌, ◌^◌, lit<, List, [], ◌∷◌, ◌++◌, length, take, drop, replicate, arith}
-use Rattle.std.specs.Int.{w64, from_le_bytes, bytes_low_first, byte_at}
+use Rattle.std.proofs.Common.{◌≡◌, refl, ap, ℕ, zero, suc, ◌≤◌, ◌<◌, ◌^◌, lit<, ◌∷◌, length, take, arith}
+use Rattle.std.specs.Int.{bytes_low_first, byte_at}
 use Rattle.std.proofs.Math.Nat.{pow-le-pow_right}
 
 -- the low octets are the first of all eight

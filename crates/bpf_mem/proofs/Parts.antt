@@ -1,7 +1,7 @@
 -- Parts of a list that is cut in two.
-use Rattle.std.proofs.Common.{◌≡◌, refl, sym, ap, ◌∙◌, subst, ℕ, ◌+◌, ◌-◌, ◌≤◌, List, [], ◌∷◌, ◌++◌, length, take, drop, arith, append_assoc}
+use Rattle.std.proofs.Common.{◌≡◌, sym, ap, ◌∙◌, ℕ, ◌+◌, ◌-◌, ◌≤◌, List, ◌++◌, length, take, drop, arith, append_assoc}
 use Rattle.std.proofs.lemmas.Grind.{common_steps}
-use Rattle.std.proofs.lemmas.List.{take-append-drop, drop-append-le, length-take-le, length-append, length-drop, take-take, drop-take, drop-drop, take_at, drop_at}
+use Rattle.std.proofs.lemmas.List.{take-append-drop, drop-append-le, length-take-le, take-take, drop-take, drop-drop, take_at, drop_at}
 use Rattle.std.proofs.Math.Seq.{take-add}
 use Rattle.bpf_mem.specs.Memory.{replaced, part}
 use Rattle.bpf_mem.specs.Places.{overwritten}
@@ -21,14 +21,14 @@ over-front : (k : ℕ) (os : List ℕ) (at : ℕ) (w : List ℕ) → k ≤ lengt
 over-front k os at w h i =
     let front = length-take-le k os h in
     let behind : drop (at + length w) os ≡ drop (at + length w) (take k os) ++ drop k os =
-        ap (λ l. drop (at + length w) l) (sym (take-append-drop k os)) ∙ drop-append-le (at + length w) (take k os) (drop k os) (omega (arith, front)) in
+    ap (λ l. drop (at + length w) l) (sym (take-append-drop k os)) ∙ drop-append-le (at + length w) (take k os) (drop k os) (omega (arith, front)) in
     let before : take at os ≡ take at (take k os) = sym (take-take at k os (omega arith)) in
     rw (behind, before) (simp append_assoc)
 
 over-back : (k : ℕ) (os : List ℕ) (at : ℕ) (w : List ℕ) → over os (k + at) w ≡ take k os ++ replaced (drop k os) at w
 over-back k os at w =
     let behind : drop (k + at + length w) os ≡ drop (at + length w) (drop k os) =
-        ap (λ n. drop n os) (let e : k + at + length w ≡ k + (at + length w) = omega arith in e) ∙ sym (drop-drop (at + length w) k os) in
+    ap (λ n. drop n os) (let e : k + at + length w ≡ k + (at + length w) = omega arith in e) ∙ sym (drop-drop (at + length w) k os) in
     rw (behind, take-add k at os) (simp append_assoc)
 
 pub front-over_front : (k : ℕ) (os : List ℕ) (at : ℕ) (w : List ℕ) → k ≤ length os → at + length w ≤ k → take k (over os at w) ≡ replaced (take k os) at w

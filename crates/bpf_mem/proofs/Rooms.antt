@@ -1,8 +1,7 @@
 -- Stack and heap as the octets that they share.
-use Rattle.std.proofs.Common.{◌≡◌, refl, sym, ap, ◌∙◌, subst, ℕ, zero, suc, ◌<◌, get_or, ◌+◌, ◌-◌, ◌≤◌, Bool, true, false, List, [], ◌∷◌, ◌++◌, length, take, drop, replicate, Option, Some, None, IsSome, unwrap_or, option_map, arith, inl, inr}
+use Rattle.std.proofs.Common.{◌≡◌, refl, sym, ap, ◌∙◌, subst, ℕ, zero, suc, ◌<◌, get_or, ◌+◌, ◌-◌, ◌≤◌, true, false, List, [], ◌∷◌, length, take, drop, replicate, Option, Some, None, IsSome, unwrap_or, option_map, arith, inl, inr}
 use Rattle.std.specs.Prelude.{◌==◌}
 use Rattle.std.specs.Int.{bytes_low_first}
-use Rattle.std.proofs.lemmas.Grind.{common_steps}
 use Rattle.std.proofs.lemmas.Bool.{cases_Bool, eqb-true, eq-eqb}
 use Rattle.std.proofs.lemmas.Bool.Decides.{nat_tests}
 use Rattle.std.proofs.lemmas.List.{take-append-drop, length-take-le, length-drop, take-replicate, drop-replicate, nil_from_length}
@@ -32,8 +31,8 @@ module _ (os window : List ℕ) (size : length os ≡ 8704) (addr n : ℕ) where
         octets = rw none refl;
         writable = rw none refl;
         written = λ w e.
-          let nil : w ≡ [] = nil_from_length w (e ∙ none) in
-          rw nil (ap (λ (l : List ℕ). Some (memory_of l window)) (sym (overwritten-fit os 0 [] (omega arith))));
+            let nil : w ≡ [] = nil_from_length w (e ∙ none) in
+            rw nil (ap (λ (l : List ℕ). Some (memory_of l window)) (sym (overwritten-fit os 0 [] (omega arith))));
       }
 
   place-stack : (n == 0) ≡ false → is_within stack_base 512 addr n ≡ true → IsPlace os window addr n (addr - stack_base)
@@ -46,11 +45,11 @@ module _ (os window : List ℕ) (size : length os ≡ 8704) (addr n : ℕ) where
         octets = rw (z, s) (ap (λ (l : List ℕ). Some l) (part-front 512 os at n within));
         writable = rw (z, s) (ap (λ (l : List ℕ). Some l) (part-front 512 os at n within));
         written = λ w e.
-          let here : at + length w ≤ 512 = omega arith in
-          let whole = overwritten-fit os at w (omega arith) in
-          let first : take 512 (overwritten os at w) ≡ replaced (take 512 os) at w = ap (λ l. take 512 l) whole ∙ front-over_front 512 os at w (omega arith) here in
-          let second : drop 512 (overwritten os at w) ≡ drop 512 os = ap (λ l. drop 512 l) whole ∙ back-over_front 512 os at w (omega arith) here in
-          rw (rw (← e) at z, rw (← e) at s) (ap (λ (m : Memory). Some m) (sym (same _ _ _ _ window first second)));
+            let here : at + length w ≤ 512 = omega arith in
+            let whole = overwritten-fit os at w (omega arith) in
+            let first : take 512 (overwritten os at w) ≡ replaced (take 512 os) at w = ap (λ l. take 512 l) whole ∙ front-over_front 512 os at w (omega arith) here in
+            let second : drop 512 (overwritten os at w) ≡ drop 512 os = ap (λ l. drop 512 l) whole ∙ back-over_front 512 os at w (omega arith) here in
+            rw (rw (← e) at z, rw (← e) at s) (ap (λ (m : Memory). Some m) (sym (same _ _ _ _ window first second)));
       }
 
   place-heap : (n == 0) ≡ false → is_within stack_base 512 addr n ≡ false → is_within heap_base 8192 addr n ≡ true → IsPlace os window addr n (512 + (addr - heap_base))
@@ -63,10 +62,10 @@ module _ (os window : List ℕ) (size : length os ≡ 8704) (addr n : ℕ) where
         octets = rw (z, s, t) (ap (λ (l : List ℕ). Some l) (part-back 512 os at n));
         writable = rw (z, s, t) (ap (λ (l : List ℕ). Some l) (part-back 512 os at n));
         written = λ w e.
-          let whole = overwritten-fit os (512 + at) w (omega arith) in
-          let first : take 512 (overwritten os (512 + at) w) ≡ take 512 os = ap (λ l. take 512 l) whole ∙ front-over_back 512 os at w (omega arith) in
-          let second : drop 512 (overwritten os (512 + at) w) ≡ replaced (drop 512 os) at w = ap (λ l. drop 512 l) whole ∙ back-over_back 512 os at w (omega arith) in
-          rw (rw (← e) at z, rw (← e) at s, rw (← e) at t) (ap (λ (m : Memory). Some m) (sym (same _ _ _ _ window first second)));
+            let whole = overwritten-fit os (512 + at) w (omega arith) in
+            let first : take 512 (overwritten os (512 + at) w) ≡ take 512 os = ap (λ l. take 512 l) whole ∙ front-over_back 512 os at w (omega arith) in
+            let second : drop 512 (overwritten os (512 + at) w) ≡ replaced (drop 512 os) at w = ap (λ l. drop 512 l) whole ∙ back-over_back 512 os at w (omega arith) in
+            rw (rw (← e) at z, rw (← e) at s, rw (← e) at t) (ap (λ (m : Memory). Some m) (sym (same _ _ _ _ window first second)));
       }
 
   pub place-some : (at : ℕ) → writable_place addr n ≡ Some at → IsPlace os window addr n at
@@ -74,12 +73,12 @@ module _ (os window : List ℕ) (size : length os ≡ 8704) (addr n : ℕ) where
       elim (cases_Bool (n == 0)) [
         | inl z ↦ let e : 0 ≡ at = (let p = rw z at h in cc) in subst (λ k. IsPlace os window addr n k) e (place-nothing z)
         | inr z ↦ elim (cases_Bool (is_within stack_base 512 addr n)) [
-            | inl s ↦ let e : addr - stack_base ≡ at = (let p = rw (z, s) at h in cc) in subst (λ k. IsPlace os window addr n k) e (place-stack z s)
-            | inr s ↦ elim (cases_Bool (is_within heap_base 8192 addr n)) [
-                | inl t ↦ let e : 512 + (addr - heap_base) ≡ at = (let p = rw (z, s, t) at h in cc) in subst (λ k. IsPlace os window addr n k) e (place-heap z s t)
-                | inr t ↦ let p = rw (z, s, t) at h in cc
-              ]
+          | inl s ↦ let e : addr - stack_base ≡ at = (let p = rw (z, s) at h in cc) in subst (λ k. IsPlace os window addr n k) e (place-stack z s)
+          | inr s ↦ elim (cases_Bool (is_within heap_base 8192 addr n)) [
+            | inl t ↦ let e : 512 + (addr - heap_base) ≡ at = (let p = rw (z, s, t) at h in cc) in subst (λ k. IsPlace os window addr n k) e (place-heap z s t)
+            | inr t ↦ let p = rw (z, s, t) at h in cc
           ]
+        ]
       ]
 
   -- where there is no place, nothing may be written, and only the window may have the range
@@ -88,12 +87,12 @@ module _ (os window : List ℕ) (size : length os ≡ 8704) (addr n : ℕ) where
       elim (cases_Bool (n == 0)) [
         | inl z ↦ let p = rw z at h in absurd (cc)
         | inr z ↦ elim (cases_Bool (is_within stack_base 512 addr n)) [
-            | inl s ↦ let p = rw (z, s) at h in absurd (cc)
-            | inr s ↦ elim (cases_Bool (is_within heap_base 8192 addr n)) [
-                | inl t ↦ let p = rw (z, s, t) at h in absurd (cc)
-                | inr t ↦ (rw (z, s, t) refl, rw (z, s, t) (elim (cases_Bool (is_within window_base (length window) addr n)) [ inl u ↦ rw u refl | inr u ↦ rw u refl ]))
-              ]
+          | inl s ↦ let p = rw (z, s) at h in absurd (cc)
+          | inr s ↦ elim (cases_Bool (is_within heap_base 8192 addr n)) [
+            | inl t ↦ let p = rw (z, s, t) at h in absurd (cc)
+            | inr t ↦ (rw (z, s, t) refl, rw (z, s, t) (elim (cases_Bool (is_within window_base (length window) addr n)) [ inl u ↦ rw u refl | inr u ↦ rw u refl ]))
           ]
+        ]
       ]
 
   -- a range that may be written has a place
@@ -170,9 +169,44 @@ module _ (os window : List ℕ) (m : Memory) (addr n : ℕ) (size : length os �
       let inside = (place-some os window size addr n at h).inside in
       ap (λ l. length l) e ∙ length-take-le n (drop at os) (omega (arith, length-drop at os, inside))
 
--- memory that was lent ends as a store, where the range shows the octets of a number
-pub lent-stored : (m : Memory) (addr n value : ℕ) (before after : List ℕ) → length before ≡ n → after ≡ bytes_low_first 0 (length before) value → lent m addr n after ≡ unwrap_or (store m addr n value) m
-lent-stored m addr n value before after len e =
+-- what was lent ends as a write of the octets that it shows, as many as there were
+pub lent-fit : (m : Memory) (addr n : ℕ) (w : List ℕ) → length w ≡ n → lent m addr n w ≡ unwrap_or (with_octets m addr w) m
+lent-fit m addr n w e = rw (eq-eqb (length w) n e) refl
+
+-- a range that may be written takes as many octets
+pub lent-written : (m : Memory) (addr n : ℕ) (w : List ℕ) → length w ≡ n → IsSome (writable_at m addr n) → with_octets m addr w ≡ Some (lent m addr n w)
+lent-written m addr n w e h =
+    rw (lent-fit m addr n w e) (
+    elim (cases_Bool (n == 0)) [
+      | inl z ↦ rw (rw (← e) at z) refl
+      | inr z ↦ elim (cases_Bool (is_within stack_base 512 addr n)) [
+        | inl s ↦ rw (rw (← e) at z, rw (← e) at s) refl
+        | inr s ↦ elim (cases_Bool (is_within heap_base 8192 addr n)) [
+          | inl t ↦ rw (rw (← e) at z, rw (← e) at s, rw (← e) at t) refl
+          | inr t ↦ absurd (let p = rw (z, s, t) at h in cc)
+        ]
+      ]
+    ])
+
+-- nothing that is lent for writing is in the window
+pub lent-window : (m : Memory) (addr n : ℕ) (w : List ℕ) → (lent m addr n w).window ≡ m.window
+lent-window m addr n w =
+    elim (cases_Bool (length w == n)) [
+      | inl e ↦ rw e (elim (cases_Bool (length w == 0)) [
+        | inl z ↦ rw z refl
+        | inr z ↦ elim (cases_Bool (is_within stack_base 512 addr (length w))) [
+          | inl s ↦ rw (z, s) refl
+          | inr s ↦ elim (cases_Bool (is_within heap_base 8192 addr (length w))) [
+            | inl t ↦ rw (z, s, t) refl
+            | inr t ↦ rw (z, s, t) refl
+          ]
+        ]
+      ])
+      | inr e ↦ rw e refl
+    ]
+
+-- a range that shows the octets of a number makes it a store
+pub lent-stored : (m : Memory) (addr n value : ℕ) (before after : List ℕ) → writable_at m addr n ≡ Some before → length before ≡ n → after ≡ bytes_low_first 0 (length before) value → store m addr n value ≡ Some (lent m addr n after)
+lent-stored m addr n value before after there len e =
     let octets : after ≡ bytes_low_first 0 n value = e ∙ ap (λ k. bytes_low_first 0 k value) len in
-    let fits : (length (bytes_low_first 0 n value) == n) ≡ true = eq-eqb _ n (length-bytes_low_first 0 n value) in
-    rw (octets, fits) refl
+    rw octets (lent-written m addr n (bytes_low_first 0 n value) (length-bytes_low_first 0 n value) (rw there refl))

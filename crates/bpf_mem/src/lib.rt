@@ -15,3 +15,6 @@ mod room;
 
 pub use memory::Memory;
 pub use room::Room;
+
+#[cfg(test)]
+mod tests;

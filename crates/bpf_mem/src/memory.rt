@@ -1,5 +1,6 @@
 // The memory of one program run.
-ghost use Rattle.std.specs.Prelude.{◌≡◌, ◌+◌, ◌≤◌, ◌⊎◌, length, is_some, IsSome, Some, option_map, unwrap_or};
+ghost use Rattle.std.specs.Prelude.{◌≡◌, ◌+◌, ◌≤◌, ◌⊎◌, length, is_some, IsSome, Some, option_map};
+ghost use Rattle.std.specs.Bool.{OnTrue, OnFalse};
 ghost use Rattle.std.specs.Borrow.{sem};
 ghost use Rattle.xb_words.specs.Octets.{AreOctets};
 ghost use Rattle.bpf_mem.specs.Memory.{fresh, octets_at, writable_at, IsMemory, IsSize};
@@ -67,10 +68,8 @@ impl<'a> Memory<'a> {
         if let Some(at) = writable_place(addr, len) {
             return Some(&self.room.octets()[at..at + n]);
         }
-        match place_in(WINDOW_BASE, self.window.len(), addr, len) {
-            Some(at) => Some(&self.window[at..at + n]),
-            None => None,
-        }
+        let at = place_in(WINDOW_BASE, self.window.len(), addr, len)?;
+        Some(&self.window[at..at + n])
     }
 
     /// Whether the octets of a range all stand in the stack or all in the heap, so that they may be written.
@@ -109,17 +108,16 @@ impl<'a> Memory<'a> {
         requires { IsSize size }
         ensures { result ≡ load self.now addr size }
     {
-        match self.range(addr, size as u64) {
-            Some(octets) => Some(number_of(octets)),
-            None => None,
-        }
+        self.range(addr, size as u64).map(number_of)
     }
 
     /// Writes the low octets of a number into a range of one, two, four or eight octets, where it may be written.
     pub fn store(&mut self, addr: u64, size: usize, value: u64) -> bool
         requires { IsSize size }
         ensures done { result ≡ is_some (store self.old addr size value) }
-        ensures after { self.new ≡ unwrap_or (store self.old addr size value) self.old }
+        ensures stored { OnTrue result (store self.old addr size value ≡ Some self.new) }
+        ensures refused { OnFalse result (self.new ≡ self.old) }
+        ensures window { self.new.window ≡ self.old.window }
     {
         if !self.is_writable(addr, size as u64) {
             return false;

@@ -3,9 +3,13 @@ ghost use Rattle.std.specs.Prelude.{◌≡◌, ◌≤◌, ◌^◌, ◌+◌};
 ghost use Rattle.bpf_mem.specs.Places.{place_in, writable_place};
 
 pub(crate) const STACK_BASE: u64 = 0x1000_0000;
+
 pub(crate) const HEAP_BASE: u64 = 0x2000_0000;
+
 pub(crate) const WINDOW_BASE: u64 = 0x3000_0000;
+
 pub(crate) const STACK_SIZE: usize = 512;
+
 pub(crate) const HEAP_SIZE: usize = 8192;
 
 /// The place of a range in a region, where the region has all its octets.
@@ -30,8 +34,5 @@ pub(crate) fn writable_place(addr: u64, len: u64) -> Option<usize>
     if let Some(at) = place_in(STACK_BASE, STACK_SIZE, addr, len) {
         return Some(at);
     }
-    match place_in(HEAP_BASE, HEAP_SIZE, addr, len) {
-        Some(at) => Some(STACK_SIZE + at),
-        None => None,
-    }
+    place_in(HEAP_BASE, HEAP_SIZE, addr, len).map(|at| STACK_SIZE + at)
 }

@@ -1,4 +1,4 @@
-use Rattle.std.proofs.Common.{arith, ℕ, ◌<◌, ◌^◌, length-take, length-drop, length}
+use Rattle.std.proofs.Common.{arith, ℕ, ◌<◌, ◌^◌, length-take, length-drop}
 use Rattle.bpf_mem.proofs.LowFirst.{seven-octets}
 use Rattle.bpf_mem.proofs.numbers.+number_of.Goals as goal
 
