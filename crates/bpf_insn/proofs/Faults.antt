@@ -62,10 +62,10 @@ none-at allowed code (suc n) i k h low high first =
           subst (λ m. slot_fault allowed code m ≡ None) here (option_map-none (fault_at i) _ (or_else-none _ _ (rw p at h)).0)
       | inr other ↦
           let rest : first_fault allowed code (filter (λ j. not (is_second code j)) (numbers_from n (i + 1))) ≡ None =
-              elim (cases_Bool (not (is_second code i))) [
-                | inl p ↦ (or_else-none _ _ (rw p at h)).1
-                | inr p ↦ rw p at h
-              ] in
+          elim (cases_Bool (not (is_second code i))) [
+            | inl p ↦ (or_else-none _ _ (rw p at h)).1
+            | inr p ↦ rw p at h
+          ] in
           none-at allowed code n (i + 1) k rest (omega arith) (omega arith) first
     ]
 
@@ -135,25 +135,25 @@ behind-inside code some end i inside first no_exit no_ja pair =
           let second : is_second code (i + 1) ≡ true = second-next code i ∙ rw (first, w) refl in
           let third : is_second code (i + 2) ≡ false = ap (λ m. is_second code m) (let e : i + 2 ≡ (i + 1) + 1 = omega arith in e) ∙ second-next code (i + 1) ∙ rw second refl in
           let room : i + 2 < slots code = elim (cases_lt (i + 2) (slots code)) [
-              | inl below ↦ below
-              | inr above ↦
-                  let near = pair w in
-                  let last : slots code - 1 ≡ i + 1 = omega (arith, near, above) in
-                  let last_second : is_second code (slots code - 1) ≡ true = ap (λ m. is_second code m) last ∙ second in
-                  let begin : last_start code ≡ i = rw last_second (let e : slots code - 2 ≡ i = omega (arith, near, above) in e) in
-                  absurd (end-at code i end begin no_exit no_ja)
-            ] in
+            | inl below ↦ below
+            | inr above ↦
+                let near = pair w in
+                let last : slots code - 1 ≡ i + 1 = omega (arith, near, above) in
+                let last_second : is_second code (slots code - 1) ≡ true = ap (λ m. is_second code m) last ∙ second in
+                let begin : last_start code ≡ i = rw last_second (let e : slots code - 2 ≡ i = omega (arith, near, above) in e) in
+                absurd (end-at code i end begin no_exit no_ja)
+          ] in
           rw w (and_from _ _ (lt-ltb (i + 2) (slots code) room) (not_from_false _ third))
       | inr n ↦
           let second : is_second code (i + 1) ≡ false = second-next code i ∙ rw (first, n) refl in
           let room : i + 1 < slots code = elim (cases_lt (i + 1) (slots code)) [
-              | inl below ↦ below
-              | inr above ↦
-                  let last : slots code - 1 ≡ i = omega (arith, above, inside) in
-                  let last_first : is_second code (slots code - 1) ≡ false = ap (λ m. is_second code m) last ∙ first in
-                  let begin : last_start code ≡ i = rw last_first last in
-                  absurd (end-at code i end begin no_exit no_ja)
-            ] in
+            | inl below ↦ below
+            | inr above ↦
+                let last : slots code - 1 ≡ i = omega (arith, above, inside) in
+                let last_first : is_second code (slots code - 1) ≡ false = ap (λ m. is_second code m) last ∙ first in
+                let begin : last_start code ≡ i = rw last_first last in
+                absurd (end-at code i end begin no_exit no_ja)
+          ] in
           rw n (and_from _ _ (lt-ltb (i + 1) (slots code) room) (not_from_false _ second))
     ]
 
@@ -205,3 +205,28 @@ second-inside code a i b op e w =
     let inside : i + 1 < slots code = ltb-true (i + 1) (slots code) second.0 in
     let whole = a.whole in
     omega (arith, inside, whole)
+
+-- the first instruction begins at slot 0
+pub begins-first : (code : List ℕ) → IsAccepted code → begins code 0 ≡ true
+begins-first code a = let some = a.nonempty in and_from _ _ (lt-ltb 0 (slots code) (omega arith)) refl
+
+-- a helper that accepted code calls is allowed
+pub call-allowed : (allowed : ℕ → Bool) (code : List ℕ) → load_fault allowed code ≡ None → (i : ℕ) → begins code i ≡ true → is_call (opcode_of code i) ≡ true → allowed (raw_imm code i) ≡ true
+call-allowed allowed code h i b call =
+    let f = finds allowed code h in
+    let parts = and_parts _ _ b in
+    let inside : i < slots code = ltb-true i (slots code) parts.0 in
+    let p = passes allowed code i (none-at allowed code (slots code) 0 i f.each (omega arith) (omega arith) (not-true _ parts.1)) in
+    not-false _ (second-false _ _ p.call call)
+
+-- the same helpers give the same fault
+slot-same : (a b : ℕ → Bool) → ((n : ℕ) → a n ≡ b n) → (code : List ℕ) (i : ℕ) → slot_fault a code i ≡ slot_fault b code i
+slot-same a b h code i = rw (h (raw_imm code i)) refl
+
+first-same : (a b : ℕ → Bool) → ((n : ℕ) → a n ≡ b n) → (code is : List ℕ) → first_fault a code is ≡ first_fault b code is
+first-same a b h code [] = refl
+first-same a b h code (i ∷ is) = rw (slot-same a b h code i, first-same a b h code is) refl
+
+pub load_fault-same : (a b : ℕ → Bool) → ((n : ℕ) → a n ≡ b n) → (code : List ℕ) → load_fault a code ≡ load_fault b code
+unfolding load_fault
+load_fault-same a b h code = rw (first-same a b h code (starts code)) refl

@@ -20,10 +20,10 @@ seconds-push code n s x are e =
     record {
       size = length_push s x ∙ ap (λ m. m + 1) size;
       each = λ k d h.
-        elim (cases_lt k n) [
-          | inl below ↦ get_or_append_left s (x ∷ []) d k (omega (arith, size, below)) ∙ are.each k d below
-          | inr above ↦
-              let here : n ≡ k = omega (arith, above) in
-              get_or_push s x d k (size ∙ here) ∙ e ∙ ap (λ m. is_second code m) here
-        ];
+          elim (cases_lt k n) [
+            | inl below ↦ get_or_append_left s (x ∷ []) d k (omega (arith, size, below)) ∙ are.each k d below
+            | inr above ↦
+                let here : n ≡ k = omega (arith, above) in
+                get_or_push s x d k (size ∙ here) ∙ e ∙ ap (λ m. is_second code m) here
+          ];
     }

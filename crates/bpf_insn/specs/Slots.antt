@@ -53,4 +53,5 @@ insn_at code i = record {
   dst = dst_of code i;
   src = src_of code i;
   offset = offset_of code i;
-  imm = (if is_wide (opcode_of code i) then raw_imm code i + 2 ^ 32 * raw_imm code (i + 1) else word (imm_of code i)) }
+  imm = (if is_wide (opcode_of code i) then raw_imm code i + 2 ^ 32 * raw_imm code (i + 1) else word (imm_of code i));
+}

@@ -8,7 +8,10 @@ ghost use Rattle.bpf_insn.specs.Loading.{has_second, is_start, target, slot_faul
 ghost use Rattle.bpf_insn.specs.Seconds.{AreSeconds};
 
 use crate::fault::{LoadFault, LoadKind};
-use crate::forms::{by_register, class, code_of, is_alu, is_call, is_condition, is_end, is_exit, is_ja, is_neg, is_opcode, is_store, is_wide, jumps, writes_register};
+use crate::forms::{
+    by_register, class, code_of, is_alu, is_call, is_condition, is_end, is_exit, is_ja, is_neg,
+    is_opcode, is_store, is_wide, jumps, writes_register,
+};
 use crate::helpers::HelperSet;
 use crate::seconds::second_slots;
 use crate::slot::Slot;
@@ -29,7 +32,11 @@ fn is_alu_offset(opcode: u8, offset: u16) -> bool
 fn has_one_operand(opcode: u8, src: u8, imm: u32) -> bool
     ensures { result ≡ has_one_operand opcode src imm }
 {
-    if by_register(opcode) { imm == 0 } else { src == 0 }
+    if by_register(opcode) {
+        imm == 0
+    } else {
+        src == 0
+    }
 }
 
 /// Whether the fields of a slot are those of its form.

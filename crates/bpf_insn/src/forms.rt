@@ -51,7 +51,8 @@ pub fn is_condition(opcode: u8) -> bool
     ensures { result ≡ is_condition opcode }
 {
     let code = code_of(opcode);
-    (class(opcode) == 5 || class(opcode) == 6) && (1 <= code && code <= 7 || 10 <= code && code <= 13)
+    (class(opcode) == 5 || class(opcode) == 6)
+        && (1 <= code && code <= 7 || 10 <= code && code <= 13)
 }
 
 /// JA, by the offset or by the immediate.
