@@ -1,12 +1,13 @@
 -- What it says of code that the loader finds no fault.
-use Rattle.std.proofs.Common.{◌≡◌, ◌≢◌, refl, sym, ap, ◌∙◌, subst, ℕ, zero, suc, ◌+◌, ◌-◌, ◌*◌, ◌/◌, ◌%◌, ◌<◌, ◌≤◌, Bool, true, false, List, [], ◌∷◌, length, get_or, Option, Some, None, option_map, arith, inl, inr}
-use Rattle.std.specs.Prelude.{not, filter, nat_lt, ◌==◌, ◌&&◌, ◌||◌, if◌then◌else◌, IsTrue}
-use Rattle.std.proofs.lemmas.Bool.{cases_Bool, cases_lt, cases_eq, not-false, not-true, ltb-true, false_from_ne_true, not_from_false, or_parts, or_right, or_from, and_from, and_parts, and_cases, ltb-false, lt-ltb, eqb-true, eqb-false, eq-eqb}
+use Rattle.std.proofs.Common.{◌≡◌, ◌≢◌, refl, sym, ap, ◌∙◌, subst, ℕ, zero, suc, ◌+◌, ◌-◌, ◌*◌, ◌%◌, ◌<◌, ◌≤◌, Bool, true, false, List, [], ◌∷◌, length, get_or, Option, Some, None, option_map, arith, inl, inr, ◌^◌}
+use Rattle.std.specs.Prelude.{ℤ, pos, negsuc, ◌+ℤ◌, not, filter, nat_lt, ◌==◌, ◌&&◌, ◌||◌, if◌then◌else◌}
+use Rattle.std.proofs.lemmas.Bool.{cases_Bool, cases_lt, cases_eq, not-false, not-true, ltb-true, false_from_ne_true, not_from_false, or_parts, and_from, and_parts, ltb-false, lt-ltb, eqb-true, eqb-false}
+use Rattle.std.proofs.lemmas.Int.{ints}
 use Rattle.xb_words.specs.Optional.{or_else}
 use Rattle.bpf_insn.specs.declared.fault.LoadKind.{LoadKind}
 use Rattle.bpf_insn.specs.declared.fault.LoadKind.TheVariants.{Length, TooLong, Opcode, Register, Reserved, WidePair, Jump, WriteR10, Helper, OpenEnd}
 use Rattle.bpf_insn.specs.declared.fault.LoadFault.{LoadFault}
-use Rattle.bpf_insn.specs.Slots.{slots, opcode_of, dst_of, src_of, raw_offset, raw_imm, is_wide}
+use Rattle.bpf_insn.specs.Slots.{slots, opcode_of, dst_of, src_of, raw_offset, raw_imm, is_wide, word}
 use Rattle.bpf_insn.specs.Forms.{is_opcode, are_fields, jumps, writes_register, is_call, is_exit, is_ja}
 use Rattle.bpf_insn.specs.Loading.{is_second, begins, numbers_from, starts, last_start, has_second, target, is_start, slot_fault, fault_at, first_fault, end_fault, load_fault}
 use Rattle.bpf_insn.specs.Seconds.{AreSeconds}
@@ -230,3 +231,20 @@ first-same a b h code (i ∷ is) = rw (slot-same a b h code i, first-same a b h 
 pub load_fault-same : (a b : ℕ → Bool) → ((n : ℕ) → a n ≡ b n) → (code : List ℕ) → load_fault a code ≡ load_fault b code
 unfolding load_fault
 load_fault-same a b h code = rw (first-same a b h code (starts code)) refl
+
+-- a sum with a signed number modulo 2^64
+wrapped : (i : ℕ) (z : ℤ) (t : ℕ) → pos (i + 1) +ℤ z ≡ pos t → i < 4096 → t < 4096 → (i + 1 + word z) % 2 ^ 64 ≡ t
+wrapped i (pos n) t e h k = let sum : i + 1 + n ≡ t = omega (arith, ints) in omega arith
+wrapped i (negsuc n) t e h k = let sum : i + 1 ≡ t + suc n = omega (arith, ints) in omega arith
+
+-- a jump by a signed distance modulo 2^64 gets to the instruction at its target
+pub jump-place : (code : List ℕ) → IsAccepted code → (i : ℕ) → i < slots code → (z : ℤ) → is_start code (pos (i + 1) +ℤ z) ≡ true → begins code ((i + 1 + word z) % 2 ^ 64) ≡ true
+jump-place code a i inside z h =
+    elim (pos (i + 1) +ℤ z) as (λ r. pos (i + 1) +ℤ z ≡ r → is_start code r ≡ true → begins code ((i + 1 + word z) % 2 ^ 64) ≡ true) [
+      | pos t ↦ λ e b.
+          let few = a.few in
+          let near : t < slots code = ltb-true t (slots code) (and_parts _ _ b).0 in
+          let same : (i + 1 + word z) % 2 ^ 64 ≡ t = wrapped i z t e (omega (arith, inside, few)) (omega (arith, near, few)) in
+          rw same b
+      | negsuc n ↦ λ e b. absurd (cc)
+    ] refl h

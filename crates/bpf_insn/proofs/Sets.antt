@@ -1,5 +1,5 @@
 -- Sets of helpers.
-use Rattle.std.proofs.Common.{◌≡◌, refl, ℕ, zero, suc, Bool, false, get_or, replicate}
+use Rattle.std.proofs.Common.{◌≡◌, refl, ℕ, zero, suc, false, get_or, replicate}
 
 -- an empty set has no number
 pub allows-none : (k n : ℕ) → get_or (replicate k false) n false ≡ false

@@ -1,9 +1,9 @@
 -- Second slots and the slots at which instructions begin.
-use Rattle.std.proofs.Common.{◌≡◌, refl, sym, ap, ◌∙◌, ℕ, zero, suc, ◌+◌, ◌-◌, ◌<◌, ◌≤◌, Bool, true, false, List, [], ◌∷◌, ◌++◌, length, get_or, arith, add-one, inl, inr}
+use Rattle.std.proofs.Common.{◌≡◌, refl, ap, ◌∙◌, ℕ, ◌+◌, Bool, List, [], ◌∷◌, ◌++◌, arith, add-one, inl, inr}
 use Rattle.std.specs.Prelude.{not, ◌&&◌}
 use Rattle.std.proofs.lemmas.Bool.{cases_lt}
 use Rattle.std.proofs.lemmas.List.{get_or_push, length_push, get_or_append_left}
-use Rattle.bpf_insn.specs.Slots.{slots, opcode_of, is_wide}
+use Rattle.bpf_insn.specs.Slots.{opcode_of, is_wide}
 use Rattle.bpf_insn.specs.Loading.{is_second}
 use Rattle.bpf_insn.specs.Seconds.{AreSeconds}
 

@@ -1,5 +1,5 @@
 -- The first fault of bytecode (RFC 9669, 3 to 5, in this project's profile; the order of the checks and the limit are this project's own).
-use Rattle.std.specs.Prelude.{◌≡◌, ℕ, zero, suc, ◌+◌, ◌-◌, ◌*◌, ◌%◌, ◌≤◌, Bool, true, false, List, [], ◌∷◌, length, filter, Option, Some, None, Result, Ok, Err, option_map, ℤ, pos, negsuc, ◌+ℤ◌, nat_lt, ◌==◌, ◌&&◌, ◌||◌, not, if◌then◌else◌}
+use Rattle.std.specs.Prelude.{ℕ, zero, suc, ◌+◌, ◌-◌, ◌%◌, Bool, false, List, [], ◌∷◌, length, filter, Option, Some, None, Result, Ok, Err, option_map, ℤ, pos, negsuc, ◌+ℤ◌, nat_lt, ◌==◌, ◌&&◌, ◌||◌, not, if◌then◌else◌}
 use Rattle.xb_words.specs.Optional.{or_else}
 use Rattle.bpf_insn.specs.declared.fault.LoadKind.{LoadKind}
 use Rattle.bpf_insn.specs.declared.fault.LoadKind.TheVariants.{Length, TooLong, Opcode, Register, Reserved, WidePair, Jump, WriteR10, Helper, OpenEnd}

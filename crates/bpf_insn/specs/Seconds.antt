@@ -1,6 +1,5 @@
 -- The loader's table of second slots.
 use Rattle.std.specs.Prelude.{◌≡◌, ℕ, ◌<◌, Bool, List, length, slice_index_or}
-use Rattle.bpf_insn.specs.Slots.{slots}
 use Rattle.bpf_insn.specs.Loading.{is_second}
 
 -- the table tells of the first n slots whether each is a second slot

@@ -1,4 +1,4 @@
-use Rattle.std.proofs.Common.{◌≡◌, ◌≤◌, ◌/◌, length, vec_len, vec_capacity}
+use Rattle.std.proofs.Common.{◌≡◌}
 use Rattle.bpf_insn.specs.Loading.{is_second}
 use Rattle.bpf_insn.specs.Seconds.{AreSeconds}
 use Rattle.bpf_insn.proofs.seconds.second_slots.Given as goal

@@ -1,4 +1,4 @@
-use Rattle.std.proofs.Common.{arith, sym, ◌∙◌, ap}
+use Rattle.std.proofs.Common.{sym, ◌∙◌}
 use Rattle.bpf_insn.proofs.Faults.{sound, second-inside}
 use Rattle.bpf_insn.proofs.code.Code.at.Goals as goal
 
