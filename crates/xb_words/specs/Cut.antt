@@ -1,6 +1,6 @@
 -- Items that stand one after another: messages of a stream, prefixes, attributes, segments, parameters, lines.
 -- A `size` says of a list how many octets the item at its front has, and None where no whole item stands there.
-use Rattle.std.specs.Prelude.{◌≡◌, ℕ, zero, suc, ◌+◌, ◌<◌, ◌≤◌, List, [], ◌∷◌, ◌++◌, length, take, drop, Option, Some, None}
+use Rattle.std.specs.Prelude.{◌≡◌, ℕ, zero, suc, ◌+◌, ◌<◌, ◌≤◌, List, [], ◌∷◌, ◌++◌, length, take, drop, Option, Some, None, Result, Ok, Err}
 
 -- the items, each with all its octets, and what is left behind the last of them
 pub record Pieces : Type 0 where
@@ -47,3 +47,14 @@ IsLocal size = (s : List ℕ) (n : ℕ) → size s ≡ Some n → size (take n s
 -- one whole item, and nothing else
 abbrev pub IsItem : (List ℕ → Option ℕ) → List ℕ → Type 0
 IsItem size x = size x ≡ Some (length x)
+
+-- What a walk over items gives, in order: each item by its place and its octets, and an error at the place where octets
+-- are left that are no item.
+abbrev pub walk : {A E : Type 0} → (ℕ → List ℕ → A) → (ℕ → E) → ℕ → List (List ℕ) → List ℕ → List (Result A E)
+walk f e at [] [] = []
+walk f e at [] (b ∷ rest) = Err (e at) ∷ []
+walk f e at (x ∷ xs) rest = Ok (f at x) ∷ walk f e (at + length x) xs rest
+
+-- the same of octets that begin at a place
+unfoldable pub walk_from : {A E : Type 0} → (List ℕ → Option ℕ) → (ℕ → List ℕ → A) → (ℕ → E) → ℕ → List ℕ → List (Result A E)
+walk_from size f e at s = walk f e at (cut size s).items (cut size s).rest

@@ -1,0 +1,4 @@
+pub mod Walks
+pub mod Msgs
+pub mod Joins
+pub mod Heard

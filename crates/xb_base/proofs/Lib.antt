@@ -1,0 +1,5 @@
+pub mod PrefixLemmas
+pub mod TextLemmas
+pub mod MemoryLemmas
+pub mod Streams
+pub mod PageLemmas
