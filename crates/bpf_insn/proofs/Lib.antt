@@ -1,0 +1,3 @@
+pub mod Sets
+pub mod Starts
+pub mod Faults

@@ -1,0 +1,87 @@
+// Code that was loaded.
+ghost use Rattle.std.specs.Prelude.{◌≡◌, ◌<◌, None, Some, IfOk, IsTrue, IsErrOf};
+ghost use Rattle.bpf_insn.specs.Helpers.{allows};
+ghost use Rattle.bpf_insn.specs.Slots.{slots, slot_of, insn_at};
+ghost use Rattle.bpf_insn.specs.Loading.{begins, load_fault};
+ghost use Rattle.bpf_insn.specs.Sound.{IsAccepted, IsSound};
+
+use crate::checks::load_fault;
+use crate::fault::{LoadError, LoadFault};
+use crate::forms::is_wide;
+use crate::helpers::HelperSet;
+use crate::insn::Insn;
+use crate::slot::Slot;
+use std::alloc::Global;
+use std::marker::Model;
+
+/// Bytecode that was accepted, as the octets that were loaded.
+#[derive(Drop)]
+pub struct Code {
+    octets: Vec<u8>,
+}
+
+impl Model for Code {
+    ghost use Rattle.std.specs.Prelude.{ℕ, List};
+    ghost use Rattle.bpf_insn.specs.Sound.{IsAccepted};
+
+    ghost Value = { List ℕ };
+
+    ghost view = { λ c. c.octets.items };
+
+    ghost invariant = { λ c. IsAccepted c.octets.items };
+}
+
+/// Loads bytecode, or tells its first fault.
+pub fn load(alloc: Global, bytes: &[u8], allowed: &HelperSet) -> Result<Code, LoadError>
+    ensures octets { IfOk result (λ code. code ≡ bytes.now) }
+    ensures good { IfOk result (λ code. load_fault (allows allowed.now) bytes.now ≡ None) }
+    ensures bad { (fault : LoadFault) → IsErrOf result (LoadError.Bad fault) → load_fault (allows allowed.now) bytes.now ≡ Some fault }
+{
+    if let Some(fault) = load_fault(alloc, bytes, allowed)? {
+        return Err(LoadError::Bad(fault));
+    }
+    let octets = Vec::from_slice(alloc, bytes)?;
+    Ok(Code { octets })
+}
+
+impl Code {
+    /// How many slots there are.
+    pub fn slots(&self) -> u32
+        ensures value { result ≡ slots self.now }
+        ensures accepted { IsAccepted self.now }
+    {
+        (self.octets.len() / 8) as u32
+    }
+
+    /// The octets of a slot.
+    pub fn slot(&self, i: u32) -> [u8; 8]
+        requires { i < slots self.now }
+        ensures { result ≡ slot_of self.now i }
+    {
+        let at = 8 * i as usize;
+        let o = &self.octets[at..at + 8];
+        [o[0], o[1], o[2], o[3], o[4], o[5], o[6], o[7]]
+    }
+
+    /// The instruction that begins at a slot, which isn't the second slot of another.
+    pub fn at(&self, i: u32) -> Insn
+        requires { IsTrue (begins self.now i) }
+        ensures value { result ≡ insn_at self.now i }
+        ensures sound { IsSound self.now i }
+    {
+        let slot = Slot::read(&self.octets, i as usize);
+        let imm = if is_wide(slot.opcode) {
+            let high = Slot::read(&self.octets, i as usize + 1).imm;
+            u64::from(slot.imm) + (1 << 32) * u64::from(high)
+        } else {
+            i64::from(slot.imm.cast_signed()).cast_unsigned()
+        };
+        Insn {
+            opcode: slot.opcode,
+            dst: slot.dst,
+            src: slot.src,
+            offset: slot.offset.cast_signed(),
+            imm,
+        }
+    }
+}
