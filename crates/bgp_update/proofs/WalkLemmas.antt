@@ -13,7 +13,7 @@ messages_some = walk-some message_size message_is_size found (λ i. i)
 pub messages_error : (at : ℕ) (s : List ℕ) → message_size s ≡ None → 0 < length s → messages_from at s ≡ Err at ∷ []
 messages_error = walk-error message_size message_is_size found (λ i. i)
 
-pub messages_nil : (at : ℕ) → messages_from at [] ≡ []
+pub messages_nil : (at : ℕ) (s : List ℕ) → length s ≡ 0 → messages_from at s ≡ []
 messages_nil = walk-nil message_size message_is_size found (λ i. i)
 
 pub prefixes_some : (s : List ℕ) (n : ℕ) → prefix_size s ≡ Some n → prefixes_from s ≡ Ok (prefix_at (take n s)) ∷ prefixes_from (drop n s)
@@ -24,5 +24,5 @@ prefixes_some s n h =
 pub prefixes_error : (s : List ℕ) → prefix_size s ≡ None → 0 < length s → prefixes_from s ≡ Err tt ∷ []
 prefixes_error = walk-error prefix_size prefix_is_size (λ i. prefix_at) (λ i. tt) 0
 
-pub prefixes_nil : prefixes_from [] ≡ []
+pub prefixes_nil : (s : List ℕ) → length s ≡ 0 → prefixes_from s ≡ []
 prefixes_nil = walk-nil prefix_size prefix_is_size (λ i. prefix_at) (λ i. tt) 0

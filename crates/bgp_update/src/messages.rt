@@ -1,5 +1,4 @@
-ghost use Rattle.std.specs.Prelude.{◌≡◌, ◌≤◌, ◌<◌, ◌+◌, ◌^◌, ◌++◌, ◌==◌, ◌||◌, ◌&&◌, not, length, option_to_list, is_none};
-ghost use Rattle.std.specs.Option.{option_map};
+ghost use Rattle.std.specs.Prelude.{◌≡◌, ◌≤◌, ◌<◌, ◌+◌, ◌^◌, ◌==◌, ◌||◌, ◌&&◌, not, length, is_none, [], ◌∷◌, IfSome, IfNone};
 ghost use Rattle.xb_words.specs.Octets.{all_are};
 ghost use Rattle.xb_base.specs.Messages.{message_size, header_fault, is_bad_length};
 ghost use Rattle.bgp_update.specs.Walks.{messages_from};
@@ -89,7 +88,8 @@ impl<'a> Messages<'a> {
     /// The next message, or the offset of a header fault or of a rest that is no whole message, after which nothing comes.
     #[tactic(auto, using(xb_base::proofs::Streams::message_is_size, crate::proofs::WalkLemmas::messages_some, crate::proofs::WalkLemmas::messages_error, crate::proofs::WalkLemmas::messages_nil))]
     pub fn next(&mut self) -> Option<Result<Msg<'a>, usize>>
-        ensures { self.old ≡ option_to_list (option_map found_of result) ++ self.new }
+        ensures item { IfSome result (λ r. self.old ≡ found_of r ∷ self.new) }
+        ensures end { IfNone result ((self.old ≡ []) × (self.new ≡ [])) }
     {
         if self.rest.is_empty() {
             return None;

@@ -1,5 +1,4 @@
-ghost use Rattle.std.specs.Prelude.{◌≡◌, ◌≤◌, ◌++◌, length, option_to_list, Some};
-ghost use Rattle.std.specs.Option.{option_map};
+ghost use Rattle.std.specs.Prelude.{◌≡◌, ◌≤◌, length, Some, [], ◌∷◌, IfSome, IfNone};
 ghost use Rattle.xb_words.specs.Octets.{four_at};
 ghost use Rattle.xb_base.specs.Prefixes.{prefix_at, prefix_size};
 ghost use Rattle.bgp_update.specs.Msgs.{prefix_of_result};
@@ -67,7 +66,8 @@ impl<'a> Prefixes<'a> {
     /// The next prefix, with its host bits cleared. Nothing comes after a bad one.
     #[tactic(auto, using(xb_base::proofs::PrefixLemmas::prefix_is_size, crate::proofs::WalkLemmas::prefixes_some, crate::proofs::WalkLemmas::prefixes_error, crate::proofs::WalkLemmas::prefixes_nil))]
     pub fn next(&mut self) -> Option<Result<Prefix, BadPrefix>>
-        ensures { self.old ≡ option_to_list (option_map prefix_of_result result) ++ self.new }
+        ensures item { IfSome result (λ r. self.old ≡ prefix_of_result r ∷ self.new) }
+        ensures end { IfNone result ((self.old ≡ []) × (self.new ≡ [])) }
     {
         if self.rest.is_empty() {
             return None;

@@ -2,3 +2,4 @@ pub mod PrefixLemmas
 pub mod TextLemmas
 pub mod MemoryLemmas
 pub mod Streams
+pub mod PageLemmas

@@ -3,8 +3,10 @@ use Rattle.std.proofs.Common.{inl, inr, List, [], ◌∷◌, length, Option, Som
 use Rattle.std.proofs.lemmas.Nat.{pow_pos}
 use Rattle.std.proofs.Math.Nat.{mul-div_cancel, div-mul-le_self}
 use Rattle.std.proofs.lemmas.Bool.{cases_Bool, and_parts, leb-true}
+use Rattle.std.specs.Cmp.{IsTotalOrder}
+use Rattle.std.proofs.lemmas.Cmp.{on_total, then_total, nat_cmp_total}
 use Rattle.xb_words.specs.Cut.{IsSize}
-use Rattle.xb_base.specs.Prefixes.{cleared, prefix_of, IsPrefix, octets_for, prefix_size}
+use Rattle.xb_base.specs.Prefixes.{cleared, prefix_of, prefix_cmp, IsPrefix, octets_for, prefix_size}
 
 again : (a s : ℕ) → 0 < s → a / s * s / s * s ≡ a / s * s
 again a s h = ap (λ (q : ℕ). q * s) (mul-div_cancel (a / s) h)
@@ -21,7 +23,11 @@ prefix_is_size (len ∷ rest) n e =
       | inl fits ↦
           let size : Some (1 + octets_for len) ≡ Some n = rw fits at e in
           let n_is : 1 + octets_for len ≡ n = cc size in
-          let here = leb-true (octets_for len) (length rest) (and_parts _ _ fits).1 in
+          let here : octets_for len ≤ length rest = leb-true (octets_for len) (length rest) (and_parts _ _ fits).1 in
           (omega (arith, n_is), omega (arith, n_is, here))
       | inr short ↦ let none : None ≡ Some n = rw short at e in cc none
     ]
+
+-- the order of prefixes is total
+pub prefix_cmp_total : IsTotalOrder prefix_cmp
+prefix_cmp_total = then_total (on_total (λ p. p.addr) nat_cmp_total) (on_total (λ p. p.len) nat_cmp_total)

@@ -6,3 +6,4 @@ pub mod Causes
 pub mod Memories
 pub mod Entries
 pub mod Parts
+pub mod Pages

@@ -10,6 +10,7 @@
 mod buf;
 pub mod laws;
 mod memory;
+mod page;
 mod prefix;
 mod real;
 mod shelf;
@@ -17,6 +18,7 @@ mod text;
 
 pub use buf::Buf;
 pub use memory::{MemShelf, MemSink};
+pub use page::gather;
 pub use prefix::Prefix;
 pub use real::{FileShelf, StdSink};
 pub use shelf::{Failed, Shelf, Sink};

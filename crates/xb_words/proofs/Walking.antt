@@ -19,9 +19,10 @@ module _ {A E : Type 0} (size : List ℕ → Option ℕ) (is : IsSize size) (f :
   walk-error at (b ∷ s) h some = ap (λ (p : Pieces). walk f e at p.items p.rest) (cut-none size is (b ∷ s) h)
 
   -- nothing comes of nothing
-  pub walk-nil : (at : ℕ) → walk_from size f e at [] ≡ []
+  pub walk-nil : (at : ℕ) (s : List ℕ) → length s ≡ 0 → walk_from size f e at s ≡ []
   unfolding walk_from cut
-  walk-nil at = refl
+  walk-nil at [] none = refl
+  walk-nil at (b ∷ s) none = absurd (omega arith)
 
 module _ {A E : Type 0} (f : List ℕ → A) (e : E) where
   -- where the place is not looked at, it makes no difference

@@ -1,0 +1,118 @@
+-- The steps make the table that a stream announces.
+use Rattle.std.proofs.Common.{◌≡◌, inl, inr, ℕ, zero, suc, ◌+◌, Bool, true, false, cond, not, ◌&&◌, List, [], ◌∷◌, ◌++◌, length, map, fold, find, Option, Some, None, Result, Ok, Err, if◌then◌else◌, refl, sym, ◌∙◌, ap, arith, length-append}
+use Rattle.std.specs.Prelude.{◌==◌}
+use Rattle.std.specs.List.{concat}
+use Rattle.std.specs.Option.{option_and_then, option_map}
+use Rattle.std.proofs.Math.Dec.{eqb-suc-zero}
+use Rattle.xb_words.specs.Cut.{cut, walk, walk_from, placed}
+use Rattle.xb_words.specs.Table.{with_value, without}
+use Rattle.xb_base.specs.Prefixes.{Prefix, Sections, prefix_cmp, prefix_at, prefix_size, prefixes, are_prefixes}
+use Rattle.xb_base.specs.Messages.{Update, update_of, update_parts, lengths_fit, message_size, kind_of, body_of, split}
+use Rattle.bgp_update.specs.Heard.{heard, after_message, after_update, withdrawn_from, announced_in, is_readable, is_refused}
+use Rattle.bgp_update.specs.Walks.{found, messages_from, prefixes_from}
+use Rattle.bgp_update.proofs.WalkLemmas.{prefixes_nil}
+use Rattle.heard_table.specs.Steps.{withdraw, announce, parts_step, update_step, message_step, after_messages, or_refused}
+
+abbrev where_whole : {A : Type 0} → Bool → A → Option A
+where_whole b x = if b then Some x else None
+
+some_left : (b : ℕ) (rest : List ℕ) → (length (b ∷ rest) == 0) ≡ false
+some_left b rest = eqb-suc-zero (length rest)
+
+withdraw_walk : (at : ℕ) (items : List (List ℕ)) (rest : List ℕ) (table : Sections)
+    → withdraw (walk (λ i. prefix_at) (λ i. tt) at items rest) table ≡ where_whole (length rest == 0) (fold (without prefix_cmp) table (map prefix_at items))
+withdraw_walk at [] [] table = refl
+withdraw_walk at [] (b ∷ rest) table = ap (λ k. where_whole k table) (sym (some_left b rest))
+withdraw_walk at (x ∷ items) rest table = withdraw_walk (at + length x) items rest (without prefix_cmp table (prefix_at x))
+
+withdraw_is : (octets : List ℕ) (table : Sections) → withdraw (prefixes_from octets) table ≡ where_whole (are_prefixes octets) (withdrawn_from table octets)
+unfolding walk_from
+withdraw_is octets table = withdraw_walk 0 (cut prefix_size octets).items (cut prefix_size octets).rest table
+
+announce_walk : (at : ℕ) (items : List (List ℕ)) (rest section : List ℕ) (table : Sections)
+    → announce (walk (λ i. prefix_at) (λ i. tt) at items rest) section table ≡ where_whole (length rest == 0) (fold (λ t p. with_value prefix_cmp t p section) table (map prefix_at items))
+announce_walk at [] [] section table = refl
+announce_walk at [] (b ∷ rest) section table = ap (λ k. where_whole k table) (sym (some_left b rest))
+announce_walk at (x ∷ items) rest section table = announce_walk (at + length x) items rest section (with_value prefix_cmp table (prefix_at x) section)
+
+announce_is : (octets section : List ℕ) (table : Sections) → announce (prefixes_from octets) section table ≡ where_whole (are_prefixes octets) (announced_in table octets section)
+unfolding walk_from
+announce_is octets section table = announce_walk 0 (cut prefix_size octets).items (cut prefix_size octets).rest section table
+
+both_whole : (w n : Bool) (after : Sections) (last : Sections → Sections) → option_and_then (λ t. where_whole n (last t)) (where_whole w after) ≡ where_whole (w && n) (last after)
+both_whole true n after last = refl
+both_whole false n after last = refl
+
+parts_step_is : (u : Update) (table : Sections) → parts_step u table ≡ where_whole (are_prefixes u.withdrawn && are_prefixes u.nlri) (after_update table u)
+parts_step_is u table =
+    ap (option_and_then (announce (prefixes_from u.nlri) u.section)) (withdraw_is u.withdrawn table)
+    ∙ elim (are_prefixes u.withdrawn) as (λ w. option_and_then (announce (prefixes_from u.nlri) u.section) (where_whole w (withdrawn_from table u.withdrawn)) ≡ where_whole (w && are_prefixes u.nlri) (after_update table u)) [
+      | true ↦ announce_is u.nlri u.section (withdrawn_from table u.withdrawn)
+      | false ↦ refl
+    ]
+
+update_step_is : (body : List ℕ) (table : Sections) → update_step body table ≡ where_whole (is_readable body) (after_update table (update_parts body))
+unfolding update_step
+update_step_is body table =
+    elim (lengths_fit body) as (λ b. option_and_then (λ u. parts_step u table) (if b then Some (update_parts body) else None)
+    ≡ where_whole (b && are_prefixes (update_parts body).withdrawn && are_prefixes (update_parts body).nlri) (after_update table (update_parts body))) [
+      | true ↦ parts_step_is (update_parts body) table
+      | false ↦ refl
+    ]
+
+message_step_is : (at : ℕ) (m : List ℕ) (table : Sections) → message_step (found at m) table ≡ where_whole (not (is_refused m)) (after_message table m)
+message_step_is at m table =
+    elim (kind_of m == 2) as (λ k. (if k then update_step (body_of m) table else Some table)
+    ≡ where_whole (not (k && not (is_readable (body_of m)))) (if k then after_update table (update_parts (body_of m)) else table)) [
+      | true ↦ update_step_is (body_of m) table ∙ ap (λ b. where_whole b (after_update table (update_parts (body_of m)))) (twice (is_readable (body_of m)))
+      | false ↦ refl
+    ]
+  where
+    twice : (b : Bool) → b ≡ not (not b)
+    twice true = refl
+    twice false = refl
+
+-- what is refused first among the messages, or else the rest, which begins at `end`
+abbrev refused_in : ℕ → ℕ → List (List ℕ) → List ℕ → Sections → Result Sections ℕ
+refused_in at end items rest table =
+    elim (find (λ m. is_refused m.1) (placed at items)) [
+      | Some m ↦ Err m.0
+      | None ↦ if length rest == 0 then Ok (fold after_message table items) else Err end
+    ]
+
+by_messages : (at : ℕ) (items : List (List ℕ)) (rest : List ℕ) (table : Sections)
+    → after_messages (walk found (λ i. i) at items rest) table ≡ refused_in at (at + length (concat items)) items rest table
+by_messages at [] [] table = refl
+by_messages at [] (b ∷ rest) table =
+    let here : at ≡ at + 0 = omega arith in
+    ap Err here ∙ ap (λ k. if k then Ok table else Err (at + 0)) (sym (some_left b rest))
+by_messages at (m ∷ items) rest table =
+    let end : at + length m + length (concat items) ≡ at + length (m ++ concat items) = omega (arith, length-append m (concat items)) in
+    ap (λ o. or_refused at (option_map (after_messages (walk found (λ i. i) (at + length m) items rest)) o)) (message_step_is at m table)
+    ∙ elim (is_refused m) as (λ b. or_refused at (option_map (after_messages (walk found (λ i. i) (at + length m) items rest)) (where_whole (not b) (after_message table m)))
+    ≡ elim (cond b (Some (at, m)) (find (λ x. is_refused x.1) (placed (at + length m) items))) [
+      | Some x ↦ Err x.0
+      | None ↦ if length rest == 0 then Ok (fold after_message (after_message table m) items) else Err (at + length (m ++ concat items))
+    ]) [
+      | true ↦ refl
+      | false ↦ by_messages (at + length m) items rest (after_message table m) ∙ ap (λ e. refused_in (at + length m) e items rest (after_message table m)) end
+    ]
+
+-- all steps together are the table of the stream, or the place where it is refused
+pub heard_by_steps : (s : List ℕ) → after_messages (messages_from 0 s) [] ≡ heard s
+unfolding walk_from heard
+heard_by_steps s =
+    by_messages 0 (split s).items (split s).rest []
+    ∙ by_refusal (find (λ m. is_refused m.1) (placed 0 (split s).items)) (length (split s).rest == 0) (fold after_message [] (split s).items) (length (concat (split s).items))
+  where
+    by_refusal : (o : Option (ℕ × List ℕ)) (b : Bool) (table : Sections) (end : ℕ)
+        → elim o as (λ x. Result Sections ℕ) [ Some m ↦ Err m.0 | None ↦ if b then Ok table else Err (0 + end) ]
+        ≡ elim (elim o as (λ x. Option ℕ) [ Some m ↦ Some m.0 | None ↦ if b then None else Some end ]) as (λ x. Result Sections ℕ) [ None ↦ Ok table | Some at ↦ Err at ]
+    by_refusal (Some m) b table end = refl
+    by_refusal None true table end = refl
+    by_refusal None false table end = let e : 0 + end ≡ end = omega arith in ap Err e
+
+-- no octets announce nothing
+pub announce_nothing : (octets section : List ℕ) (table : Sections) → (length octets == 0) ≡ true → announce (prefixes_from octets) section table ≡ Some table
+announce_nothing [] section table none = ap (λ ps. announce ps section table) (prefixes_nil [] refl)
+announce_nothing (b ∷ octets) section table none = absurd (cc (none, some_left b octets))
