@@ -7,3 +7,4 @@ pub mod Memories
 pub mod Entries
 pub mod Parts
 pub mod Pages
+pub mod Notices

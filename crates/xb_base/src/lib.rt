@@ -10,6 +10,7 @@
 mod buf;
 pub mod laws;
 mod memory;
+mod notice;
 mod page;
 mod prefix;
 mod real;
@@ -18,6 +19,7 @@ mod text;
 
 pub use buf::Buf;
 pub use memory::{MemShelf, MemSink};
+pub use notice::Notice;
 pub use page::gather;
 pub use prefix::Prefix;
 pub use real::{FileShelf, StdSink};

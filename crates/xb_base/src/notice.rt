@@ -1,0 +1,7 @@
+/// What a NOTIFICATION says: a code, a subcode and data (RFC 4271, section 4.5).
+#[derive(Clone, Copy, Debug, PartialEq, Eq)]
+pub struct Notice<'a> {
+    pub code: u8,
+    pub subcode: u8,
+    pub extra: &'a [u8],
+}
