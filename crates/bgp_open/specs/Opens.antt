@@ -46,15 +46,19 @@ parameters_fault octets = or_else (first_fault (cut field_size octets).items) (i
 abbrev pub is_short_hold : ℕ → Bool
 is_short_hold hold = hold == 1 || hold == 2
 
--- the first fault of a body of at least 10 octets
-unfoldable pub judge_open : List ℕ → ℕ → Option Notification
-judge_open body peer_as =
+-- the first fault before the parameters, the last being a length that is not theirs
+abbrev pub fixed_fault : List ℕ → ℕ → Option Notification
+fixed_fault body peer_as =
     if not (slice_index body 0 == 4) then Some (notification 2 1 (two_octets 4))
     else if not (two_at body 1 == peer_as) then Some (notification 2 2 [])
     else if is_short_hold (two_at body 3) then Some (notification 2 6 [])
     else if four_at body 5 == 0 then Some (notification 2 3 [])
     else if not (slice_index body 9 == length (parameters body)) then Some (notification 2 0 [])
-    else parameters_fault (parameters body)
+    else None
+
+-- the first fault of a body of at least 10 octets
+unfoldable pub judge_open : List ℕ → ℕ → Option Notification
+judge_open body peer_as = or_else (fixed_fault body peer_as) (parameters_fault (parameters body))
 
 abbrev pub seen : List ℕ → OpenSeen
 seen body = record { hold = two_at body 3; id = four_at body 5 }

@@ -9,7 +9,7 @@ ghost use Rattle.std.specs.Prelude.{◌≡◌, ◌≤◌, [], length, IfOk, IfEr
 ghost use Rattle.std.specs.Option.{option_map};
 ghost use Rattle.xb_base.specs.Messages.{notification};
 ghost use Rattle.xb_base.specs.Notices.{said};
-ghost use Rattle.bgp_open.specs.Opens.{front_field, fills, parameter_fault, parameters_fault, judge_open, seen};
+ghost use Rattle.bgp_open.specs.Opens.{front_field, fills, parameter_fault, parameters_fault, fixed_fault, judge_open, seen};
 
 use xb_base::Notice;
 use xb_words::{u16_at, u32_at};
@@ -103,6 +103,31 @@ fn fault_of_parameters(octets: &[u8]) -> Option<Notice<'static>>
     }
 }
 
+// The part before the parameters, and the parameters' length.
+fn fault_of_fixed_part(body: &[u8], peer_as: u32) -> Option<Notice<'static>>
+    requires { 10 ≤ length body.now }
+    ensures { option_map said result ≡ fixed_fault body.now peer_as }
+{
+    let hold = u16_at(body, 3);
+    if body[0] != VERSION {
+        Some(Notice {
+            code: 2,
+            subcode: 1,
+            extra: &WANTED_VERSION,
+        })
+    } else if u32::from(u16_at(body, 1)) != peer_as {
+        Some(refused(2))
+    } else if hold == 1 || hold == 2 {
+        Some(refused(6))
+    } else if u32_at(body, 5) == 0 {
+        Some(refused(3))
+    } else if usize::from(body[9]) != body.len() - 10 {
+        Some(refused(0))
+    } else {
+        None
+    }
+}
+
 /// Judges the body of an OPEN of at least 10 octets. The data of a fault is empty but for a version that isn't 4, where it is
 /// the version that is wanted, in two octets.
 #[tactic(auto, unfolding(crate::specs::Opens::judge_open))]
@@ -110,30 +135,18 @@ pub fn read_open<'a>(body: &'a [u8], want: &OpenWant) -> Result<OpenSeen, Notice
     requires { 10 ≤ length body.now }
     ensures fault { IfErr result (λ n. judge_open body.now want.now.peer_as ≡ Some (said n)) }
     ensures accepted { IfOk result (λ o. judge_open body.now want.now.peer_as ≡ None) }
-    ensures seen { IfOk result (λ o. o ≡ seen body.now) }
+    ensures values { IfOk result (λ o. o ≡ seen body.now) }
 {
-    let hold = u16_at(body, 3);
-    let id = u32_at(body, 5);
-    let parameters = &body[10..];
-    if body[0] != VERSION {
-        Err(Notice {
-            code: 2,
-            subcode: 1,
-            extra: &WANTED_VERSION,
-        })
-    } else if u32::from(u16_at(body, 1)) != want.peer_as {
-        Err(refused(2))
-    } else if hold == 1 || hold == 2 {
-        Err(refused(6))
-    } else if id == 0 {
-        Err(refused(3))
-    } else if usize::from(body[9]) != parameters.len() {
-        Err(refused(0))
-    } else if let Some(notice) = fault_of_parameters(parameters) {
-        Err(notice)
-    } else {
-        Ok(OpenSeen { hold, id })
+    if let Some(notice) = fault_of_fixed_part(body, want.peer_as) {
+        return Err(notice);
     }
+    if let Some(notice) = fault_of_parameters(&body[10..]) {
+        return Err(notice);
+    }
+    Ok(OpenSeen {
+        hold: u16_at(body, 3),
+        id: u32_at(body, 5),
+    })
 }
 
 #[cfg(test)]
