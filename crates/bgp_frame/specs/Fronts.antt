@@ -1,19 +1,11 @@
 -- What stands at the front of octets that wait (RFC 4271, 4.1 and 6.1).
-use Rattle.std.specs.Prelude.{◌≡◌, ℕ, List, [], ◌∷◌, take, drop, Some, None}
+use Rattle.std.specs.Prelude.{◌≡◌, ℕ, List, [], take, drop, Some, None}
 use Rattle.xb_words.specs.Cut.{after_item}
-use Rattle.xb_words.specs.Octets.{two_octets}
-use Rattle.xb_base.specs.Messages.{Notification, notification, message_size, front_fault, kind_of, body_of, split, stream_fault}
+use Rattle.xb_base.specs.Messages.{message_size, front_fault, kind_of, body_of, split, stream_fault}
+use Rattle.xb_base.specs.Headers.{notification_of}
 use Rattle.bgp_frame.specs.Waiting.{Waiting}
-use Rattle.bgp_frame.specs.declared.header.HeaderFault.{HeaderFault}
-use Rattle.bgp_frame.specs.declared.header.HeaderFault.TheVariants.{Marker, Length, Kind}
 use Rattle.bgp_frame.specs.declared.frames.Next.{Next}
 use Rattle.bgp_frame.specs.declared.frames.Next.TheVariants.{Whole, More, Fault}
-
--- the notification of a header's fault (RFC 4271, 6.1)
-abbrev pub notification_of : HeaderFault → Notification
-notification_of Marker = notification 1 1 []
-notification_of (Length len) = notification 1 2 (two_octets len)
-notification_of (Kind kind) = notification 1 3 (kind ∷ [])
 
 -- an answer says what stands in front: a whole message, a header that fails a check, or neither
 abbrev pub IsNext : List ℕ → Next → Type 0

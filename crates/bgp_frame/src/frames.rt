@@ -3,10 +3,13 @@ ghost use Rattle.xb_base.specs.Messages.{message_size, body_of};
 ghost use Rattle.bgp_frame.specs.Waiting.{Waiting};
 ghost use Rattle.bgp_frame.specs.Fronts.{IsNext, after_next};
 
-use crate::header::{HEADER, HeaderFault, fault_of};
 use std::alloc::{AllocError, Global};
 use std::marker::Model;
+use xb_base::{HeaderFault, fault_in_header};
 use xb_words::u16_at;
+
+// Octets of a header: a marker of 16, a length of 2, a type.
+const HEADER: usize = 19;
 
 // At most this many octets wait.
 const WAITING: usize = 8192;
@@ -48,7 +51,7 @@ fn front_of(waits: &[u8]) -> Next
     if waits.len() < HEADER {
         return Next::More;
     }
-    if let Some(fault) = fault_of(waits) {
+    if let Some(fault) = fault_in_header(waits) {
         return Next::Fault(fault);
     }
     let len = u16_at(waits, 16);

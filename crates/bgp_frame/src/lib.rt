@@ -6,11 +6,10 @@
 #![tactic(auto)]
 
 mod frames;
-mod header;
 pub mod laws;
 
 pub use frames::{Frames, Next};
-pub use header::HeaderFault;
+pub use xb_base::HeaderFault;
 
 #[cfg(test)]
 mod tests;

@@ -1,10 +1,9 @@
 -- The parts of an UPDATE join to its body.
-use Rattle.std.proofs.Common.{◌≡◌, inl, inr, ℕ, ◌+◌, ◌-◌, ◌≤◌, Bool, true, false, not, ◌&&◌, nat_lt, List, ◌++◌, length, take, drop, Option, Some, None, refl, sym, ◌∙◌, ap, subst, arith, length-drop, take-append-drop}
-use Rattle.std.proofs.lemmas.Bool.{cases_Bool, and_parts, not-true, ltb-false}
+use Rattle.std.proofs.Common.{◌≡◌, ℕ, ◌+◌, ◌≤◌, List, ◌++◌, length, take, drop, Some, sym, ◌∙◌, ap, arith, take-append-drop}
 use Rattle.std.specs.Prelude.{slice_range}
 use Rattle.xb_words.specs.Octets.{two_at}
 use Rattle.xb_words.proofs.Ranges.{range_in_place, length-range}
-use Rattle.xb_base.specs.Messages.{Update, update_of, update_parts, lengths_fit}
+use Rattle.xb_base.specs.Messages.{Update}
 use Rattle.bgp_update.specs.Joins.{Joins}
 
 some_is : (u v : Update) → Some u ≡ Some v → u ≡ v

@@ -1,5 +1,5 @@
 -- What is next in a walk over messages, and over prefixes.
-use Rattle.std.proofs.Common.{◌≡◌, ap, ◌∙◌, ℕ, ◌+◌, ◌<◌, List, [], ◌∷◌, length, take, drop, Option, Some, None, Ok, Err}
+use Rattle.std.proofs.Common.{◌≡◌, ap, ◌∙◌, ℕ, ◌+◌, ◌<◌, List, [], ◌∷◌, length, take, drop, Some, None, Ok, Err}
 use Rattle.xb_words.proofs.Walking.{walk-some, walk-error, walk-nil, walk_from-anywhere}
 use Rattle.xb_base.specs.Messages.{message_size}
 use Rattle.xb_base.specs.Prefixes.{prefix_size, prefix_at}

@@ -1,10 +1,10 @@
-ghost use Rattle.std.specs.Prelude.{◌≡◌, ◌≤◌, ◌<◌, ◌+◌, ◌^◌, ◌==◌, ◌||◌, ◌&&◌, not, length, is_none, [], ◌∷◌, IfSome, IfNone};
-ghost use Rattle.xb_words.specs.Octets.{all_are};
-ghost use Rattle.xb_base.specs.Messages.{message_size, header_fault, is_bad_length};
+ghost use Rattle.std.specs.Prelude.{◌≡◌, [], ◌∷◌, IfSome, IfNone};
+ghost use Rattle.xb_base.specs.Messages.{message_size};
 ghost use Rattle.bgp_update.specs.Walks.{messages_from};
 ghost use Rattle.bgp_update.specs.Msgs.{found_of};
 
 use std::marker::Model;
+use xb_base::fault_in_header;
 use xb_words::u16_at;
 
 const HEADER: usize = 19;
@@ -36,39 +36,11 @@ impl<'a> Model for Messages<'a> {
     ghost invariant = { λ m. m.at + length m.rest.now < 2 ^ 64 };
 }
 
-fn has_bad_length(kind: u8, len: usize) -> bool
-    ensures { result ≡ is_bad_length kind len }
-{
-    (kind == 1 && len < 29)
-        || (kind == 2 && len < 23)
-        || (kind == 3 && len < 21)
-        || (kind == 4 && len != 19)
-}
-
-fn has_marker(marker: &[u8]) -> bool
-    ensures { result ≡ all_are 255 marker.now }
-{
-    marker.iter().all(|octet| *octet == 255)
-}
-
-// The header passes all its checks.
-fn has_good_header(octets: &[u8]) -> bool
-    requires { 19 ≤ length octets.now }
-    ensures { result ≡ is_none (header_fault octets.now) }
-{
-    let len = usize::from(u16_at(octets, 16));
-    let kind = octets[18];
-    has_marker(&octets[..16])
-        && !(len < 19 || 4096 < len)
-        && !(kind == 0 || 4 < kind)
-        && !has_bad_length(kind, len)
-}
-
 // How many octets the message at the front has, where a whole one stands there.
 fn front_size(octets: &[u8]) -> Option<usize>
     ensures { result ≡ message_size octets.now }
 {
-    if octets.len() < HEADER || !has_good_header(octets) {
+    if octets.len() < HEADER || fault_in_header(octets).is_some() {
         return None;
     }
     let len = usize::from(u16_at(octets, 16));

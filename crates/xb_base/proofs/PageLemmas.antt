@@ -1,12 +1,12 @@
 -- Text on its way to a sink by a page.
-use Rattle.std.proofs.Common.{◌≡◌, ℕ, ◌+◌, ◌≤◌, List, [], ◌∷◌, ◌++◌, length, take, Option, Some, None, refl, sym, ◌∙◌, ap, subst, inl, inr, arith, append_assoc}
+use Rattle.std.proofs.Common.{◌≡◌, ℕ, ◌+◌, ◌≤◌, List, [], ◌++◌, length, take, Option, Some, None, refl, sym, ◌∙◌, ap, inl, inr, arith, append_assoc}
 use Rattle.std.proofs.lemmas.List.{append-nil, take_at, take_all, take-append-le}
 use Rattle.std.proofs.lemmas.Bool.{cases_lt}
 use Rattle.std.proofs.Math.Seq.{take-append-add, take-length}
 use Rattle.xb_base.specs.Causes.{TookFront, and_then}
 use Rattle.xb_base.specs.Pages.{Gathered}
 
-and_then-nil : (before : Option (List ℕ)) → before ≡ and_then before []
+pub and_then-nil : (before : Option (List ℕ)) → before ≡ and_then before []
 and_then-nil None = refl
 and_then-nil (Some taken) = ap Some (sym (append-nil taken))
 

@@ -1,12 +1,12 @@
 -- An address that was cleared stays as it is.
-use Rattle.std.proofs.Common.{inl, inr, List, [], ◌∷◌, length, Option, Some, None, ◌&&◌, nat_le, ◌≡◌, ℕ, ◌+◌, ◌-◌, ◌*◌, ◌/◌, ◌%◌, ◌^◌, ◌<◌, ◌≤◌, ap, sym, ◌∙◌, arith}
+use Rattle.std.proofs.Common.{inl, inr, [], ◌∷◌, length, Some, None, ◌&&◌, nat_le, ◌≡◌, ℕ, ◌+◌, ◌-◌, ◌*◌, ◌/◌, ◌^◌, ◌<◌, ◌≤◌, ap, arith}
 use Rattle.std.proofs.lemmas.Nat.{pow_pos}
 use Rattle.std.proofs.Math.Nat.{mul-div_cancel, div-mul-le_self}
 use Rattle.std.proofs.lemmas.Bool.{cases_Bool, and_parts, leb-true}
 use Rattle.std.specs.Cmp.{IsTotalOrder}
 use Rattle.std.proofs.lemmas.Cmp.{on_total, then_total, nat_cmp_total}
 use Rattle.xb_words.specs.Cut.{IsSize}
-use Rattle.xb_base.specs.Prefixes.{cleared, prefix_of, prefix_cmp, IsPrefix, octets_for, prefix_size}
+use Rattle.xb_base.specs.Prefixes.{prefix_of, prefix_cmp, IsPrefix, octets_for, prefix_size}
 
 again : (a s : ℕ) → 0 < s → a / s * s / s * s ≡ a / s * s
 again a s h = ap (λ (q : ℕ). q * s) (mul-div_cancel (a / s) h)

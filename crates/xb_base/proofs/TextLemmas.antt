@@ -1,10 +1,9 @@
 -- How long texts are.
-use Rattle.std.proofs.Common.{◌≡◌, ℕ, ◌+◌, ◌*◌, ◌<◌, List, [], ◌∷◌, length, flat_map, refl, arith, lit<, length-append, ◌/◌, ◌%◌, ◌^◌, ◌≤◌, map}
+use Rattle.std.proofs.Common.{◌≡◌, ℕ, ◌+◌, ◌*◌, ◌<◌, List, [], ◌∷◌, length, flat_map, refl, arith, lit<, length-append, ◌/◌, ◌%◌, ◌^◌, ◌≤◌}
 use Rattle.std.specs.Prelude.{decimal}
 use Rattle.std.proofs.lemmas.Fmt.{length-decimal-le}
-use Rattle.xb_words.specs.Octets.{four_octets}
 use Rattle.xb_base.specs.Prefixes.{Prefix, IsPrefix}
-use Rattle.xb_base.specs.Texts.{hex_octet, hex_text, prefix_text, dotted}
+use Rattle.xb_base.specs.Texts.{hex_octet, hex_text, prefix_text}
 
 octets_length : (octets : List ℕ) → length (flat_map hex_octet octets) ≡ 2 * length octets
 octets_length [] = refl

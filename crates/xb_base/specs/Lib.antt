@@ -7,4 +7,5 @@ pub mod Memories
 pub mod Entries
 pub mod Parts
 pub mod Pages
+pub mod Headers
 pub mod Notices

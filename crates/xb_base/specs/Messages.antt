@@ -1,6 +1,5 @@
 -- Messages of a stream (RFC 4271, 4.1 and 6.1): a marker of 16 octets, a length of 2, a type, and a body.
-use Rattle.std.specs.Prelude.{ℕ, ◌+◌, ◌-◌, Bool, List, [], ◌∷◌, ◌++◌, length, take, drop, slice_index, slice_range, replicate, Option, Some, None, nat_lt, ◌==◌, ◌&&◌, ◌||◌, not, if◌then◌else◌}
-use Rattle.std.specs.List.{concat}
+use Rattle.std.specs.Prelude.{ℕ, ◌+◌, Bool, List, [], ◌∷◌, ◌++◌, length, take, drop, slice_index, slice_range, replicate, Option, Some, None, nat_lt, ◌==◌, ◌&&◌, ◌||◌, not, if◌then◌else◌}
 use Rattle.xb_words.specs.Octets.{two_at, two_octets, all_are}
 use Rattle.xb_words.specs.Cut.{Pieces, cut, IsItem}
 

@@ -8,6 +8,7 @@
 #![tactic(auto)]
 
 mod buf;
+mod header;
 pub mod laws;
 mod memory;
 mod notice;
@@ -18,6 +19,7 @@ mod shelf;
 mod text;
 
 pub use buf::Buf;
+pub use header::{HeaderFault, fault_in_header};
 pub use memory::{MemShelf, MemSink};
 pub use notice::Notice;
 pub use page::gather;

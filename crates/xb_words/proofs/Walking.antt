@@ -1,5 +1,5 @@
 -- Laws of walks over items.
-use Rattle.std.proofs.Common.{◌≡◌, refl, sym, ap, ◌∙◌, ℕ, ◌+◌, ◌<◌, ◌≤◌, List, [], ◌∷◌, length, take, drop, Option, Some, None, Result, Ok, Err, arith}
+use Rattle.std.proofs.Common.{◌≡◌, refl, ap, ◌∙◌, ℕ, ◌+◌, ◌<◌, List, [], ◌∷◌, length, take, drop, Option, Some, None, Ok, Err, arith}
 use Rattle.std.proofs.lemmas.List.{length-take-le}
 use Rattle.xb_words.specs.Cut.{Pieces, cut, walk, walk_from, IsSize}
 use Rattle.xb_words.proofs.Cutting.{cut-some, cut-none}

@@ -1,4 +1,4 @@
-use Rattle.std.proofs.Common.{rules, ◌≡◌, ◌+◌, ◌≤◌, length, sym, arith}
+use Rattle.std.proofs.Common.{rules, ◌≡◌, ◌+◌, ◌≤◌, length, arith}
 use Rattle.xb_words.specs.Octets.{two_at}
 use Rattle.bgp_update.proofs.UpdateLemmas.{parts_join}
 use Rattle.bgp_update.proofs.update.UpdateView.new.Goals as goal

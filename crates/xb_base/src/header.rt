@@ -1,15 +1,12 @@
 ghost use Rattle.std.specs.Prelude.{◌≡◌, ◌≤◌, ◌==◌, length};
 ghost use Rattle.std.specs.Option.{option_map};
 ghost use Rattle.xb_words.specs.Octets.{all_are};
+ghost use Rattle.xb_base.specs.Headers.{notification_of};
 ghost use Rattle.xb_base.specs.Messages.{header_fault, is_bad_length};
-ghost use Rattle.bgp_frame.specs.Fronts.{notification_of};
 
 use xb_words::u16_at;
 
-/// Octets of a header: a marker of 16, a length of 2, a type.
-pub const HEADER: usize = 19;
-
-/// Why a header is refused: its marker, its length field, or its type (RFC 4271, section 6.1).
+/// Why the header of a message is refused: its marker, its length field, or its type (RFC 4271, section 6.1).
 #[derive(Clone, Copy, Debug, PartialEq, Eq)]
 pub enum HeaderFault {
     Marker,
@@ -23,7 +20,6 @@ fn has_marker(marker: &[u8]) -> bool
     marker.iter().all(|octet| *octet == 255)
 }
 
-// Types are 1 OPEN, 2 UPDATE, 3 NOTIFICATION, 4 KEEPALIVE.
 fn has_bad_length(kind: u8, len: u16) -> bool
     ensures { result ≡ is_bad_length kind len }
 {
@@ -33,14 +29,14 @@ fn has_bad_length(kind: u8, len: u16) -> bool
         || (kind == 4 && len != 19)
 }
 
-/// The first check that a header fails.
-pub fn fault_of(header: &[u8]) -> Option<HeaderFault>
-    requires { 19 ≤ length header.now }
-    ensures { option_map notification_of result ≡ header_fault header.now }
+/// The first check that the header at the front fails.
+pub fn fault_in_header(octets: &[u8]) -> Option<HeaderFault>
+    requires { 19 ≤ length octets.now }
+    ensures { option_map notification_of result ≡ header_fault octets.now }
 {
-    let len = u16_at(header, 16);
-    let kind = header[18];
-    if !has_marker(&header[..16]) {
+    let len = u16_at(octets, 16);
+    let kind = octets[18];
+    if !has_marker(&octets[..16]) {
         Some(HeaderFault::Marker)
     } else if len < 19 || 4096 < len {
         Some(HeaderFault::Length(len))

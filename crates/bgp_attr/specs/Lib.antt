@@ -1,0 +1,6 @@
+pub mod Attributes
+pub mod Paths
+pub mod Routes
+pub mod Rules
+pub mod Shown
+pub mod Walks

@@ -1,0 +1,4 @@
+pub mod Prepending
+pub mod Rereading
+pub mod Splitting
+pub mod Wholes

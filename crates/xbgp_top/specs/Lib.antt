@@ -1,0 +1,7 @@
+pub mod Commands
+pub mod Answers
+pub mod Codes
+pub mod Inputs
+pub mod Outputs
+pub mod Top
+pub mod Shown

@@ -1,0 +1,30 @@
+-- How a text goes to a sink, and what the status says of it.
+use Rattle.std.specs.Prelude.{◌≡◌, ◌≢◌, ◌⊎◌, ℕ, ◌≤◌, List, [], ◌++◌, Option, Result, Ok, Err}
+use Rattle.xb_base.specs.Causes.{Rose, TookFront, and_then}
+use Rattle.xb_base.specs.Pages.{Gathered}
+use Rattle.xbgp_top.specs.Answers.{Answer}
+use Rattle.xbgp_top.specs.declared.status.Status.{Status}
+use Rattle.xbgp_top.specs.declared.status.Status.TheVariants.{WriteFault, OutOfMemory}
+
+-- an answer was to be written, and ended with a status
+pub record Writes (answer : Answer) (before now : Option (List ℕ)) (faults_before faults_now : ℕ) (status : Status) : Type 0 where
+  -- the answer's status, a fault of the sink, or want of memory
+  pub only : (status ≡ answer.status) ⊎ ((status ≡ WriteFault) ⊎ (status ≡ OutOfMemory))
+  -- the whole text was taken where the status is the answer's
+  pub whole : status ≢ WriteFault → status ≢ OutOfMemory → now ≡ and_then before answer.text
+  pub front : TookFront before now answer.text
+  pub fault : status ≡ WriteFault → Rose faults_before faults_now
+  pub quiet : status ≢ WriteFault → status ≢ OutOfMemory → faults_now ≡ faults_before
+  pub later : faults_before ≤ faults_now
+
+-- a text was to be gathered behind what stands on a page, and that ended early
+pub record Stops (before now : Option (List ℕ)) (whole : List ℕ) (faults_before faults_now : ℕ) (status : Status) : Type 0 where
+  pub only : (status ≡ WriteFault) ⊎ (status ≡ OutOfMemory)
+  pub front : TookFront before now whole
+  pub fault : status ≡ WriteFault → Rose faults_before faults_now
+  pub later : faults_before ≤ faults_now
+
+-- a text was gathered behind what stood on a page, or that ended early
+abbrev pub Gathers : Option (List ℕ) → Option (List ℕ) → List ℕ → List ℕ → List ℕ → ℕ → ℕ → Result (Unit {0}) Status → Type 0
+Gathers before now page next text faults_before faults_now (Ok done) = Gathered before now (page ++ text) next [] × (faults_now ≡ faults_before)
+Gathers before now page next text faults_before faults_now (Err status) = Stops before now (page ++ text) faults_before faults_now status

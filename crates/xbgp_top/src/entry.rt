@@ -1,0 +1,80 @@
+ghost use Rattle.std.specs.Prelude.{◌≡◌, ◌≢◌, ◌≤◌, ◌⊎◌, Some, map, string_bytes};
+ghost use Rattle.std.specs.Option.{option_map};
+ghost use Rattle.xb_base.specs.Causes.{Files, Rose, TookFront};
+ghost use Rattle.xbgp_top.specs.Answers.{answer};
+ghost use Rattle.xbgp_top.specs.Commands.{command_of, hear};
+ghost use Rattle.xbgp_top.specs.Shown.{shown};
+ghost use Rattle.xbgp_top.specs.Top.{Explains, IsAnswered, IsUsage, SaysMissing, told_answer};
+
+use crate::input::{Input, read_input};
+use crate::output::{print_heard, say};
+use crate::{File, Status};
+use std::alloc::Global;
+use xb_base::{Shelf, Sink};
+
+// What the words of the command line ask for.
+#[derive(Clone, Copy, Debug)]
+pub(crate) enum Command<'a> {
+    Heard(&'a str),
+}
+
+fn command_in(words: &[String]) -> Option<Command<'_>>
+    ensures { option_map shown result ≡ command_of (map string_bytes words.now) }
+{
+    match words {
+        [word, name] if word.as_str() == "heard" => Some(Command::Heard(name.as_str())),
+        _ => None,
+    }
+}
+
+fn heard_file<S: Shelf, K: Sink>(alloc: Global, name: &str, shelf: &mut S, sink: &mut K) -> Status
+    ensures explains { Explains (told_answer (Some (hear name.now)) (S.held shelf.old)) (S.faults shelf.old) (S.faults shelf.new) (K.faults sink.old) (K.faults sink.new) (K.took sink.old) (K.took sink.new) result }
+    ensures command { result ≢ Status.Usage }
+{
+    match read_input(alloc, shelf, name) {
+        Input::Octets(octets) => print_heard(alloc, &octets, sink),
+        Input::Long => say(sink, b"fault long input\n", Status::TooLong(File::Input)),
+        Input::Fault => Status::ReadFault,
+        Input::OutOfMemory => Status::OutOfMemory,
+    }
+}
+
+// Does what the words say.
+fn obey<S: Shelf, K: Sink>(alloc: Global, words: &[String], shelf: &mut S, sink: &mut K) -> Status
+    ensures explains { Explains (told_answer (command_of (map string_bytes words.now)) (S.held shelf.old)) (S.faults shelf.old) (S.faults shelf.new) (K.faults sink.old) (K.faults sink.new) (K.took sink.old) (K.took sink.new) result }
+    ensures usage { IsUsage (command_of (map string_bytes words.now)) result }
+{
+    match command_in(words) {
+        None => say(sink, b"fault usage\n", Status::Usage),
+        Some(Command::Heard(name)) => heard_file(alloc, name, shelf, sink),
+    }
+}
+
+/// Does what the words of the command line say, without the program's own name, over the files of the shelf, and puts the
+/// text to the sink.
+pub fn run<S: Shelf, K: Sink>(
+    alloc: Global,
+    words: &[String],
+    shelf: &mut S,
+    sink: &mut K,
+) -> Status
+    // Where the shelf tells and no count of faults rose: the answer's status with its whole text, or want of memory.
+    ensures exact { (files : Files) → S.held shelf.old ≡ Some files → ¬ Rose (S.faults shelf.old) (S.faults shelf.new) → ¬ Rose (K.faults sink.old) (K.faults sink.new)
+        → result ≢ Status.OutOfMemory → IsAnswered (answer (map string_bytes words.now) files) (K.took sink.old) (K.took sink.new) result }
+
+    // In every case a front of the answer's text was taken.
+    ensures front { (files : Files) → S.held shelf.old ≡ Some files → TookFront (K.took sink.old) (K.took sink.new) (answer (map string_bytes words.now) files).text }
+
+    // The words alone decide on Usage, whatever the shelf tells.
+    ensures usage { IsUsage (command_of (map string_bytes words.now)) result }
+
+    // No fault is answered without its cause, and no other answer where a count rose.
+    ensures read_cause { result ≡ Status.ReadFault → Rose (S.faults shelf.old) (S.faults shelf.new) ⊎ SaysMissing (S.held shelf.old) (map string_bytes words.now) }
+    ensures write_cause { result ≡ Status.WriteFault → Rose (K.faults sink.old) (K.faults sink.new) }
+    ensures quiet_shelf { result ≢ Status.ReadFault → result ≢ Status.OutOfMemory → S.faults shelf.new ≡ S.faults shelf.old }
+    ensures quiet_sink { result ≢ Status.WriteFault → result ≢ Status.OutOfMemory → K.faults sink.new ≡ K.faults sink.old }
+    ensures later_shelf { S.faults shelf.old ≤ S.faults shelf.new }
+    ensures later_sink { K.faults sink.old ≤ K.faults sink.new }
+{
+    obey(alloc, words, shelf, sink)
+}

@@ -1,0 +1,167 @@
+use crate::{File, Status, run};
+use std::alloc::Global;
+use std::test::Fail;
+use xb_base::{MemShelf, MemSink};
+
+// The attributes of a route by AS 65001 with next hop 192.0.2.1.
+const ROUTE: [u8; 18] = [
+    0x40, 1, 1, 0, 0x40, 2, 4, 2, 1, 0xfd, 0xe9, 0x40, 3, 4, 192, 0, 2, 1,
+];
+
+const ROUTE_TEXT: &str = "400101004002040201fde9400304c0000201";
+
+// A message whose length field counts all of it.
+fn message(alloc: Global, kind: u8, body: &[u8]) -> Result<Vec<u8>, Fail> {
+    let mut octets = vec![in alloc; 255u8; 16]?;
+    let len = u16::try_from(body.len() + 19).ok().ok_or("long")?;
+    octets.extend_from_slice(&len.to_be_bytes())?;
+    octets.push(kind)?;
+    octets.extend_from_slice(body)?;
+    Ok(octets)
+}
+
+fn update(alloc: Global, nlri: &[u8]) -> Result<Vec<u8>, Fail> {
+    let mut body = Vec::from_slice(alloc, &[0, 0, 0, 18])?;
+    body.extend_from_slice(&ROUTE)?;
+    body.extend_from_slice(nlri)?;
+    message(alloc, 2, &body)
+}
+
+fn zeros(alloc: Global, count: usize) -> Result<Vec<u8>, Fail> {
+    Ok(vec![in alloc; 0u8; count]?)
+}
+
+// What words answer over a shelf that holds the octets as `x`, and what is written; the sink fails at a call, or never at 0.
+fn answer(
+    alloc: Global,
+    words: &[&str],
+    octets: &[u8],
+    failing: u64,
+) -> Result<(Status, Vec<u8>), Fail> {
+    let mut shelf = MemShelf::make(alloc)?;
+    shelf.add("x", octets)?;
+    let mut sink = MemSink::make(alloc, 1000)?;
+    sink.fail_at(failing)?;
+    let mut owned = Vec::new(alloc);
+    for word in words {
+        owned.push(String::from_str(alloc, word)?)?;
+    }
+    let status = run(alloc, &owned, &mut shelf, &mut sink);
+    Ok((status, Vec::from_slice(alloc, sink.taken())?))
+}
+
+#[test]
+fn tables_are_printed(rt: HostRuntime) -> Result<(), Fail> {
+    let alloc = rt.alloc();
+    let one = format!(in alloc; "10.0.0.0/8 {ROUTE_TEXT}\nend\n")?;
+    let cleared = format!(in alloc; "10.0.0.0/13 {ROUTE_TEXT}\nend\n")?;
+    let (status, text) = answer(alloc, &["heard", "x"], &update(alloc, &[8, 10])?, 0)?;
+    assert_eq!(rt; status, Status::Done);
+    assert_eq!(rt; text.as_slice(), one.as_bytes());
+
+    let (status, text) = answer(alloc, &["heard", "x"], &update(alloc, &[13, 10, 7])?, 0)?;
+    assert_eq!(rt; status, Status::Done);
+    assert_eq!(rt; text.as_slice(), cleared.as_bytes());
+
+    let empty = message(alloc, 2, &[0, 0, 0, 0])?;
+    for octets in [b"".as_slice(), empty.as_slice()] {
+        let (status, text) = answer(alloc, &["heard", "x"], octets, 0)?;
+        assert_eq!(rt; status, Status::Done);
+        assert_eq!(rt; text.as_slice(), b"end\n".as_slice());
+    }
+    Ok(())
+}
+
+#[test]
+fn refusals_are_named(rt: HostRuntime) -> Result<(), Fail> {
+    let alloc = rt.alloc();
+    let mut short = update(alloc, &[8, 10])?;
+    let _ = short.pop();
+    let long = zeros(alloc, 1_048_577)?;
+    for (words, octets, failing, status, code, text) in [
+        (
+            ["heard", "x"].as_slice(),
+            short.as_slice(),
+            0,
+            Status::BadStream(0),
+            10,
+            "fault stream 0\n",
+        ),
+        (
+            [].as_slice(),
+            b"".as_slice(),
+            0,
+            Status::Usage,
+            2,
+            "fault usage\n",
+        ),
+        (
+            ["heard"].as_slice(),
+            b"".as_slice(),
+            0,
+            Status::Usage,
+            2,
+            "fault usage\n",
+        ),
+        (
+            ["hear", "x"].as_slice(),
+            b"".as_slice(),
+            0,
+            Status::Usage,
+            2,
+            "fault usage\n",
+        ),
+        (
+            ["heard", "y"].as_slice(),
+            b"".as_slice(),
+            0,
+            Status::ReadFault,
+            3,
+            "",
+        ),
+        (
+            ["heard", "x"].as_slice(),
+            b"".as_slice(),
+            1,
+            Status::WriteFault,
+            4,
+            "",
+        ),
+        (
+            ["heard", "x"].as_slice(),
+            long.as_slice(),
+            0,
+            Status::TooLong(File::Input),
+            9,
+            "fault long input\n",
+        ),
+    ] {
+        let (got, written) = answer(alloc, words, octets, failing)?;
+        assert_eq!(rt; got, status, "for {text}");
+        assert_eq!(rt; got.code(), code, "for {text}");
+        assert_eq!(rt; written.as_slice(), text.as_bytes());
+    }
+    Ok(())
+}
+
+// Where an allocation is made to fail, the set-up fails by itself, or the answer is want of memory with a front of the text.
+#[test]
+fn want_of_memory_leaves_a_front(rt: HostRuntime) -> Result<(), Fail> {
+    let alloc = rt.alloc();
+    let whole = format!(in alloc; "10.0.0.0/8 {ROUTE_TEXT}\n10.8.0.0/13 {ROUTE_TEXT}\nend\n")?;
+    let octets = update(alloc, &[8, 10, 13, 10, 8])?;
+    let mut shelf = MemShelf::make(alloc)?;
+    shelf.add("x", &octets)?;
+    let mut sink = MemSink::make(alloc, 1000)?;
+    let mut words = Vec::new(alloc);
+    words.push(String::from_str(alloc, "heard")?)?;
+    words.push(String::from_str(alloc, "x")?)?;
+    let status = run(alloc, &words, &mut shelf, &mut sink);
+    if status == Status::OutOfMemory {
+        assert!(rt; whole.as_bytes().starts_with(sink.taken()));
+    } else {
+        assert_eq!(rt; status, Status::Done);
+        assert_eq!(rt; sink.taken(), whole.as_bytes());
+    }
+    Ok(())
+}
