@@ -9,7 +9,7 @@ use Rattle.xbgp_top.specs.declared.status.Status.{Status}
 use Rattle.xbgp_top.specs.declared.status.Status.TheVariants.{Done, Usage, ReadFault, WriteFault, OutOfMemory, TooLong}
 use Rattle.xbgp_top.specs.declared.command.Job.{Job}
 use Rattle.xbgp_top.specs.declared.command.Job.TheVariants.{Heard, Judge}
-use Rattle.xbgp_top.specs.Answers.{Answer, answered, answer, command_answer, job_answer, heard_answer, judge_line, messages_of, place_of_rest, usage_answer, input_limit, fault_line, bad_stream, table_lines, end_line}
+use Rattle.xbgp_top.specs.Answers.{Answer, answered, answer, command_answer, job_answer, judge_line, messages_of, place_of_rest, usage_answer, input_limit, fault_line, bad_stream, table_lines, end_line}
 use Rattle.xbgp_top.specs.Commands.{on_file, command_of}
 use Rattle.xbgp_top.specs.Outputs.{Writes}
 use Rattle.xbgp_top.specs.Top.{Explains, IsAnswered, SaysMissing, told_answer}
