@@ -1,0 +1,204 @@
+// A session and its timers.
+ghost use Rattle.std.specs.Prelude.{◌≡◌, ◌+◌, ◌/◌, ◌^◌, ◌<◌, ◌≤◌, [], ◌∷◌, length};
+ghost use Rattle.bgp_fsm.specs.Sessions.{Does, start_session, due_in, stay, enter, close, close_with, open_sent, open_confirm, held_on, established, keepalive_sent, live_row, row, due};
+
+use crate::{Act, Reaction, State, Stimulus, Timer};
+use std::marker::Model;
+
+/// A session with one peer: its state, its timers, and what the peer's OPEN said. Times are in seconds.
+#[derive(Drop)]
+pub struct Session {
+    own_hold: u16,
+    state: State,
+    hold_at: Option<u64>,
+    keepalive_at: Option<u64>,
+    // The hold time in use.
+    hold: u16,
+    peer_id: u32,
+}
+
+impl Model for Session {
+    ghost use Rattle.bgp_fsm.specs.Sessions.{Owned};
+
+    ghost Value = { Owned };
+
+    ghost view = { λ s. record { own = s.own_hold; session = record { state = s.state; hold_at = s.hold_at; keepalive_at = s.keepalive_at; hold = s.hold; id = s.peer_id } } };
+}
+
+// How long a peer's OPEN is awaited.
+const OPEN_WAIT: u64 = 240;
+
+// The codes of a NOTIFICATION (RFC 4271, section 4.5).
+const HOLD_TIMER_EXPIRED: u8 = 4;
+
+const FSM_ERROR: u8 = 5;
+
+const CEASE: u8 = 6;
+
+// The due time of a timer that waits so long; off where the hold time is 0.
+fn due_in(hold: u16, now: u64, wait: u16) -> Option<u64>
+    requires { now < 2 ^ 32 }
+    ensures { result ≡ due_in hold now wait }
+{
+    if hold == 0 {
+        None
+    } else {
+        Some(now + u64::from(wait))
+    }
+}
+
+impl Session {
+    /// An idle session of a speaker that is configured with that hold time.
+    pub fn new(own_hold: u16) -> Session
+        ensures { result ≡ record { own = own_hold; session = start_session } }
+    {
+        Session {
+            own_hold,
+            state: State::Idle,
+            hold_at: None,
+            keepalive_at: None,
+            hold: 0,
+            peer_id: 0,
+        }
+    }
+
+    /// What the session has come to.
+    pub fn state(&self) -> State
+        ensures { result ≡ self.now.session.state }
+    {
+        self.state
+    }
+
+    /// The identifier in the peer's last good OPEN, or 0.
+    pub fn peer_id(&self) -> u32
+        ensures { result ≡ self.now.session.id }
+    {
+        self.peer_id
+    }
+
+    /// The timer that is due first, with its due time.
+    #[tactic(auto, unfolding(crate::specs::Sessions::due))]
+    pub fn due(&self) -> Option<(u64, Timer)>
+        ensures { result ≡ due self.now.session }
+    {
+        match (self.hold_at, self.keepalive_at) {
+            (Some(end), Some(next)) if next < end => Some((next, Timer::Keepalive)),
+            (Some(end), _) => Some((end, Timer::Hold)),
+            (None, Some(next)) => Some((next, Timer::Keepalive)),
+            (None, None) => None,
+        }
+    }
+
+    /// Takes a stimulus at a time on the clock, in seconds. The acts are for the caller to do, in their order.
+    #[tactic(auto, unfolding(crate::specs::Sessions::row))]
+    pub fn on(&mut self, now: u64, what: Stimulus) -> Reaction
+        requires { now ≤ 4294967295 }
+        ensures acts { result ≡ (row self.old.own self.old.session now what).acts }
+        ensures few { length result ≤ 4 }
+        ensures after { self.new ≡ record self.old { session = (row self.old.own self.old.session now what).session } }
+    {
+        use State::{Connect, Established, Idle, OpenConfirm, OpenSent};
+        use Stimulus::*;
+        match (self.state, what) {
+            (Idle, Start) => self.enter(Connect),
+            (Connect, Stop) => self.enter(Idle),
+            (Connect, LinkUp) => self.send_open(now),
+            (Idle | Connect, _) => Reaction::none(),
+            (OpenSent, OpenGood { hold, id }) => self.confirm(now, hold, id),
+            (OpenSent, Keepalive | Update) => self.close_with(FSM_ERROR, 0),
+            (OpenConfirm, Keepalive) => self.come_up(now),
+            (OpenConfirm, OpenGood { .. } | OpenLate | Update) => self.close_with(FSM_ERROR, 0),
+            (Established, Keepalive | Update) => self.hold_on(now),
+            (Established, OpenGood { .. } | OpenLate) => self.close_with(FSM_ERROR, 0),
+            (OpenConfirm | Established, KeepaliveDue) => self.send_keepalive(now),
+            _ => self.on_live(what),
+        }
+    }
+
+    // The rows that the live states share: OpenSent, OpenConfirm and Established.
+    fn on_live(&mut self, what: Stimulus) -> Reaction
+        ensures { Does (live_row self.old.session what) self.old self.new result }
+    {
+        match what {
+            Stimulus::Stop => self.close_with(CEASE, 0),
+            Stimulus::LinkDown | Stimulus::Notified => self.close(Reaction::none()),
+            Stimulus::Fault { code, subcode } => self.close_with(code, subcode),
+            Stimulus::HoldDue => self.close_with(HOLD_TIMER_EXPIRED, 0),
+            _ => Reaction::none(),
+        }
+    }
+
+    fn enter(&mut self, state: State) -> Reaction
+        ensures { Does (enter state self.old.session) self.old self.new result }
+    {
+        self.state = state;
+        Reaction::none()
+    }
+
+    fn send_open(&mut self, now: u64) -> Reaction
+        requires { now < 2 ^ 32 }
+        ensures { Does (open_sent now self.old.session) self.old self.new result }
+    {
+        self.state = State::OpenSent;
+        self.hold_at = Some(now + OPEN_WAIT);
+        self.keepalive_at = None;
+        Reaction::none().then(Act::SendOpen)
+    }
+
+    fn confirm(&mut self, now: u64, hold: u16, id: u32) -> Reaction
+        requires { now < 2 ^ 32 }
+        ensures { Does (open_confirm self.old.own hold id now self.old.session) self.old self.new result }
+    {
+        let hold = self.own_hold.min(hold);
+        self.state = State::OpenConfirm;
+        self.hold = hold;
+        self.peer_id = id;
+        self.hold_at = due_in(hold, now, hold);
+        self.keepalive_at = due_in(hold, now, hold / 3);
+        Reaction::none().then(Act::SendKeepalive)
+    }
+
+    fn hold_on(&mut self, now: u64) -> Reaction
+        requires { now < 2 ^ 32 }
+        ensures { Does (stay (held_on now self.old.session)) self.old self.new result }
+    {
+        self.hold_at = due_in(self.hold, now, self.hold);
+        Reaction::none()
+    }
+
+    fn come_up(&mut self, now: u64) -> Reaction
+        requires { now < 2 ^ 32 }
+        ensures { Does (established now self.old.session) self.old self.new result }
+    {
+        self.state = State::Established;
+        self.hold_on(now).then(Act::Up)
+    }
+
+    fn send_keepalive(&mut self, now: u64) -> Reaction
+        requires { now < 2 ^ 32 }
+        ensures { Does (keepalive_sent now self.old.session) self.old self.new result }
+    {
+        self.keepalive_at = due_in(self.hold, now, self.hold / 3);
+        Reaction::none().then(Act::SendKeepalive)
+    }
+
+    fn close(&mut self, first: Reaction) -> Reaction
+        requires { length first ≤ 2 }
+        ensures { Does (close first self.old.session) self.old self.new result }
+    {
+        let acts = match self.state {
+            State::Established => first.then(Act::Down),
+            _ => first,
+        };
+        self.state = State::Idle;
+        self.hold_at = None;
+        self.keepalive_at = None;
+        acts.then(Act::Close)
+    }
+
+    fn close_with(&mut self, code: u8, subcode: u8) -> Reaction
+        ensures { Does (close_with code subcode self.old.session) self.old self.new result }
+    {
+        self.close(Reaction::none().then(Act::SendNotice { code, subcode }))
+    }
+}
