@@ -54,7 +54,7 @@ impl Reaction {
     pub fn len(&self) -> usize
         ensures { result ≡ length self.now }
     {
-        self.as_slice().len()
+        self.len
     }
 
     /// The act at a place from 0.
