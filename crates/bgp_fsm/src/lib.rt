@@ -2,7 +2,8 @@
 //! are due.
 //!
 //! It reads no clock and sends nothing: the caller hands in the time and does the acts. `specs/Sessions` has the table, by
-//! state and then by stimulus; `Session::on` is one `match` with an arm for each of its rows.
+//! state and then by stimulus. `Session::on` is a `match` with an arm for each of its rows; those that the live states share
+//! stand in a second one.
 #![tactic(auto)]
 
 mod reaction;
