@@ -7,10 +7,11 @@ use std::io::{Read, Seek, SeekFrom};
 use std::marker::Model;
 use std::rt::Files;
 
-// A file that is open, and the place that its next read begins at.
+// A file that is open, and the place that its next read begins at. Where there was no memory for its name, it has none, and
+// is opened anew for the next read.
 #[derive(Drop)]
 struct OpenFile<F> {
-    name: String,
+    name: Option<String>,
     at: u64,
     file: F,
 }
@@ -45,6 +46,13 @@ impl<'a, R: Files> FileShelf<'a, R> {
     }
 }
 
+fn is_named<F>(open: &OpenFile<F>, name: &str) -> bool {
+    match &open.name {
+        Some(known) => known.as_str() == name,
+        None => false,
+    }
+}
+
 // The file of that name, opened anew unless it is the one that is open.
 fn open_file<R: Files + AllocGlobal>(
     files: &R,
@@ -52,9 +60,9 @@ fn open_file<R: Files + AllocGlobal>(
     name: &str,
 ) -> io::Result<OpenFile<R::File>> {
     match open {
-        Some(file) if file.name.as_str() == name => Ok(file),
+        Some(file) if is_named(&file, name) => Ok(file),
         _ => Ok(OpenFile {
-            name: String::from_str(files.alloc(), name)?,
+            name: String::from_str(files.alloc(), name).ok(),
             at: 0,
             file: File::open(files, name)?,
         }),
