@@ -1,0 +1,42 @@
+-- An UPDATE that is not too long is one message.
+use Rattle.std.proofs.Common.{◌≡◌, refl, sym, subst, ap, ℕ, ◌+◌, ◌<◌, ◌≤◌, List, [], ◌∷◌, ◌++◌, length, Bool, true, false, cond, Option, Some, None, arith, nat_lt}
+use Rattle.std.specs.Prelude.{◌||◌, ◌^◌}
+use Rattle.std.specs.Int.{w16, from_be_bytes, to_be_bytes}
+use Rattle.std.proofs.lemmas.Bool.{le-ltb}
+use Rattle.std.proofs.lemmas.List.{length-append}
+use Rattle.std.proofs.lemmas.Nat.{from_be_bytes-to_be_bytes_2}
+use Rattle.xb_words.specs.Octets.{two_octets}
+use Rattle.xb_base.specs.Messages.{Update, Notification, notification, message, update_body, update_message, message_size, header_fault, length_of, is_bad_length, IsMessage}
+use Rattle.xb_base.proofs.Streams.{passes}
+
+no_fault : (a b c : Bool) (x y : Option Notification) → a ≡ false → b ≡ false → c ≡ false → cond {A = Option Notification} (a || b) x (cond {A = Option Notification} c y None) ≡ None
+no_fault true b c x y e f g = cc
+no_fault false true c x y e f g = cc
+no_fault false false true x y e f g = cc
+no_fault false false false x y e f g = refl
+
+no_bad_length : (n : ℕ) → nat_lt n 23 ≡ false → is_bad_length 2 n ≡ false
+no_bad_length n e = rw e refl
+
+update_is_message : (body : List ℕ) → 4 ≤ length body → length body ≤ 4077 → IsMessage (message 2 body)
+update_is_message body long short =
+    let m = message 2 body in
+    let size : length_of m ≡ 19 + length body = from_be_bytes-to_be_bytes_2 (19 + length body) (omega (arith, short)) in
+    let whole : length m ≡ 19 + length body = omega arith in
+    passes (nat_lt (length m) 19) (header_fault m) (nat_lt (length m) (length_of m)) (length_of m) (length m)
+    (le-ltb (length m) 19 (omega arith))
+    (no_fault (nat_lt (length_of m) 19) (nat_lt 4096 (length_of m)) (is_bad_length 2 (length_of m)) _ _ (le-ltb (length_of m) 19 (omega (arith, size))) (le-ltb 4096 (length_of m) (omega (arith, size, short))) (no_bad_length (length_of m) (le-ltb (length_of m) 23 (omega (arith, size, long)))))
+    (le-ltb (length m) (length_of m) (omega (arith, size, whole)))
+    (omega (arith, size, whole))
+
+pub update_whole : (u : Update) → length (update_message u) ≤ 4096 → IsMessage (update_message u)
+update_whole u short =
+    let body = update_body u in
+    let w = two_octets (length u.section) in
+    let long = length-append (two_octets (length u.withdrawn) ++ u.withdrawn ++ w ++ u.section) u.nlri in
+    let middle = length-append (two_octets (length u.withdrawn) ++ u.withdrawn ++ w) u.section in
+    let first = length-append (two_octets (length u.withdrawn) ++ u.withdrawn) w in
+    update_is_message body (omega (arith, long, middle, first)) (omega (arith, short))
+
+pub is_message_along : (m n : List ℕ) → m ≡ n → IsMessage n → IsMessage m
+is_message_along m n e is = subst IsMessage (sym e) is

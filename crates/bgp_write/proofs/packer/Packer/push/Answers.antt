@@ -1,0 +1,10 @@
+use Rattle.std.proofs.Common.{arith}
+use Rattle.xb_base.specs.Prefixes.{prefix_octets}
+use Rattle.bgp_write.proofs.PackingLemmas.{is_grown}
+use Rattle.bgp_write.proofs.packer.Packer.push.Goals as goal
+
+pub invariant_of-self-2 : goal.invariant_of-self-2
+invariant_of-self-2 c = record {
+  sound = is_grown _ _ c.args.self.now.out.now _ (prefix_octets c.args.prefix) c.args.self.now.sound (rw c.tail.ensures at c.insert.ensures)
+      (omega (arith, c.length_of.ensures, c.len.ensures.value, c.if-len-length_of-gt-LONGEST.false));
+}

@@ -1,0 +1,32 @@
+-- Messages as they are written (RFC 4271, sections 4.2, 4.4 and 4.5).
+use Rattle.std.specs.Prelude.{◌≡◌, ℕ, ◌+◌, List, [], ◌∷◌, ◌++◌, replicate, slice_set, slice_index}
+use Rattle.xb_words.specs.Octets.{two_octets, four_octets}
+use Rattle.xb_base.specs.Buffers.{Buffer}
+use Rattle.xb_base.specs.Messages.{message}
+
+-- the content of a buffer is replaced, and its capacity stays
+abbrev pub Replaces : Buffer → Buffer → List ℕ → Type 0
+Replaces old new octets = new ≡ record old { octets = octets }
+
+-- the body of an OPEN: version 4, AS number, hold time, identifier, and no parameters (RFC 4271, 4.2)
+abbrev pub open_body : ℕ → ℕ → ℕ → List ℕ
+open_body asn hold id = 4 ∷ two_octets asn ++ two_octets hold ++ four_octets id ++ 0 ∷ []
+
+abbrev pub open_message : ℕ → ℕ → ℕ → List ℕ
+open_message asn hold id = message 1 (open_body asn hold id)
+
+-- RFC 4271, 4.4
+abbrev pub keepalive_message : List ℕ
+keepalive_message = message 4 []
+
+-- a code, a subcode and data (RFC 4271, 4.5)
+abbrev pub notice_message : ℕ → ℕ → List ℕ → List ℕ
+notice_message code subcode extra = message 3 (code ∷ subcode ∷ extra)
+
+-- a number over the two octets at a place
+abbrev pub with_two : List ℕ → ℕ → ℕ → List ℕ
+with_two octets at n = slice_set (slice_set octets at (slice_index (two_octets n) 0)) (at + 1) (slice_index (two_octets n) 1)
+
+-- what stands before a body
+abbrev pub header : ℕ → ℕ → List ℕ
+header kind size = replicate 16 255 ++ two_octets (19 + size) ++ kind ∷ []
