@@ -37,7 +37,13 @@ fn an_open_is_read_again(rt: HostRuntime) -> Result<(), Fail> {
         assert_eq!(rt; kind, 1);
         assert!(rt; body.len() >= 10);
         let seen = read_open(&body, &OpenWant { peer_as: 65001 });
-        assert_eq!(rt; seen, Ok(OpenSeen { hold: 90, id: 0xc000_0201 }));
+        assert_eq!(rt;
+            seen,
+            Ok(OpenSeen {
+                hold: 90,
+                id: 0xc000_0201
+            })
+        );
     }
     Ok(())
 }
