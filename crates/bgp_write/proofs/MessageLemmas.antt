@@ -1,12 +1,11 @@
 -- An UPDATE that is not too long is one message.
-use Rattle.std.proofs.Common.{◌≡◌, refl, sym, subst, ap, ℕ, ◌+◌, ◌<◌, ◌≤◌, List, [], ◌∷◌, ◌++◌, length, Bool, true, false, cond, Option, Some, None, arith, nat_lt}
-use Rattle.std.specs.Prelude.{◌||◌, ◌^◌}
-use Rattle.std.specs.Int.{w16, from_be_bytes, to_be_bytes}
+use Rattle.std.proofs.Common.{◌≡◌, refl, sym, subst, ℕ, ◌+◌, ◌≤◌, List, ◌++◌, length, Bool, true, false, cond, Option, None, arith, nat_lt}
+use Rattle.std.specs.Prelude.{◌||◌}
 use Rattle.std.proofs.lemmas.Bool.{le-ltb}
 use Rattle.std.proofs.lemmas.List.{length-append}
 use Rattle.std.proofs.lemmas.Nat.{from_be_bytes-to_be_bytes_2}
 use Rattle.xb_words.specs.Octets.{two_octets}
-use Rattle.xb_base.specs.Messages.{Update, Notification, notification, message, update_body, update_message, message_size, header_fault, length_of, is_bad_length, IsMessage}
+use Rattle.xb_base.specs.Messages.{Update, Notification, message, update_body, update_message, header_fault, length_of, is_bad_length, IsMessage}
 use Rattle.xb_base.proofs.Streams.{passes}
 
 no_fault : (a b c : Bool) (x y : Option Notification) → a ≡ false → b ≡ false → c ≡ false → cond {A = Option Notification} (a || b) x (cond {A = Option Notification} c y None) ≡ None

@@ -7,7 +7,7 @@ use Rattle.xb_base.specs.Buffers.{Buffer}
 use Rattle.bgp_write.specs.Written.{Replaces}
 use Rattle.xb_base.specs.Messages.{IsMessage}
 use Rattle.bgp_write.proofs.MessageLemmas.{update_whole, is_message_along}
-use Rattle.bgp_write.specs.Packings.{Packing, packed, sealed, IsPacking, packing_in, packed_message, front_in, section_in, prefixes_in, tail_of, header_with, sized}
+use Rattle.bgp_write.specs.Packings.{packed, sealed, IsPacking, packing_in, packed_message, front_in, section_in, prefixes_in, tail_of, header_with, sized}
 
 -- a list without the tail with which it ends
 without_tail : (s a t : List ℕ) → s ≡ a ++ t → take (length s - length t) s ≡ a

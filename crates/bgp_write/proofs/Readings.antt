@@ -1,10 +1,10 @@
 -- What is written is read again.
-use Rattle.std.proofs.Common.{◌≡◌, inl, inr, refl, sym, ap, ◌∙◌, ℕ, zero, suc, ◌+◌, ◌-◌, ◌*◌, ◌/◌, ◌%◌, ◌^◌, ◌<◌, ◌≤◌, ◌&&◌, Bool, true, false, List, [], ◌∷◌, ◌++◌, length, take, drop, map, Option, Some, None, arith, add-zero, nat_le, nat_lt, flat_map}
+use Rattle.std.proofs.Common.{◌≡◌, inl, inr, refl, sym, ap, ◌∙◌, ℕ, zero, suc, ◌+◌, ◌-◌, ◌*◌, ◌/◌, ◌%◌, ◌^◌, ◌<◌, ◌≤◌, ◌&&◌, Bool, true, List, [], ◌∷◌, ◌++◌, length, take, drop, map, Some, None, arith, add-zero, nat_le, nat_lt, flat_map}
 use Rattle.std.specs.Prelude.{slice_index, slice_range, if◌then◌else◌, ◌==◌, not}
-use Rattle.std.specs.Int.{w16, w32, from_be_bytes, to_be_bytes}
+use Rattle.std.specs.Int.{w16, w32, from_be_bytes}
 use Rattle.std.specs.List.{AllByRecursion, concat}
-use Rattle.std.proofs.lemmas.Bool.{cases_Bool, and_parts, leb-true, le-leb, le-ltb, ltb-false}
-use Rattle.std.proofs.lemmas.List.{length-append, append_assoc, append-nil, take_at, drop_at, length-take-le, get_or-append-add}
+use Rattle.std.proofs.lemmas.Bool.{cases_Bool, and_parts, leb-true, le-leb, le-ltb}
+use Rattle.std.proofs.lemmas.List.{length-append, append_assoc, append-nil, drop_at, length-take-le, get_or-append-add}
 use Rattle.std.proofs.lemmas.Nat.{from_be_bytes-to_be_bytes_2, from_be_bytes-to_be_bytes_4, pow_pos, pow-add}
 use Rattle.std.proofs.Math.Nat.{mul-div_cancel, mul-mod_left, mul_assoc, div-one}
 use Rattle.xb_words.specs.Octets.{two_at, two_octets, four_at, four_octets}

@@ -1,4 +1,4 @@
-ghost use Rattle.std.specs.Prelude.{◌≡◌, ◌≤◌, [], length};
+ghost use Rattle.std.specs.Prelude.{◌≤◌, length};
 ghost use Rattle.xb_base.specs.Messages.{IsMessage};
 ghost use Rattle.bgp_write.specs.Written.{Replaces, header, open_message, keepalive_message, notice_message};
 

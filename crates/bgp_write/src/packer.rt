@@ -1,7 +1,7 @@
-ghost use Rattle.std.specs.Prelude.{◌≡◌, ◌+◌, ◌-◌, ◌≤◌, ◌<◌, ◌++◌, ◌↔◌, [], length, take, true, false, IsTrue, MatchBool, if◌then◌else◌};
-ghost use Rattle.xb_base.specs.Prefixes.{prefix_octets, octets_for};
+ghost use Rattle.std.specs.Prelude.{◌≡◌, ◌+◌, ◌-◌, ◌≤◌, ◌++◌, ◌↔◌, length, take, true, IsTrue, MatchBool};
+ghost use Rattle.xb_base.specs.Prefixes.{prefix_octets};
 ghost use Rattle.xb_base.specs.Messages.{IsMessage};
-ghost use Rattle.bgp_write.specs.Written.{Replaces, with_two};
+ghost use Rattle.bgp_write.specs.Written.{Replaces};
 ghost use Rattle.bgp_write.specs.Packings.{packed_message, with_prefix, withdrawing, announcing, header_with, sized, tail_of, sealed, IsPacking};
 
 use crate::append::{append, set_two};
