@@ -1,5 +1,5 @@
 -- Fewer octets wait once a message is taken off.
-use Rattle.std.proofs.Common.{◌≡◌, ℕ, ◌+◌, ◌<◌, List, length, drop, Option, Some, arith, length-drop}
+use Rattle.std.proofs.Common.{◌≡◌, ℕ, ◌<◌, List, length, drop, Some, arith, length-drop}
 use Rattle.xb_base.specs.Messages.{message_size}
 use Rattle.xb_base.proofs.Streams.{message_is_size}
 
