@@ -73,22 +73,6 @@ fn tables_are_printed(rt: HostRuntime) -> Result<(), Fail> {
 }
 
 #[test]
-fn wrong_words_are_usage(rt: HostRuntime) -> Result<(), Fail> {
-    let alloc = rt.alloc();
-    for words in [
-        [].as_slice(),
-        ["heard"].as_slice(),
-        ["hear", "x"].as_slice(),
-    ] {
-        let (status, text) = answer(alloc, words, b"", 0)?;
-        assert_eq!(rt; status, Status::Usage);
-        assert_eq!(rt; status.code(), 2);
-        assert_eq!(rt; text.as_slice(), b"fault usage\n".as_slice());
-    }
-    Ok(())
-}
-
-#[test]
 fn refusals_are_named(rt: HostRuntime) -> Result<(), Fail> {
     let alloc = rt.alloc();
     let mut short = update(alloc, &[8, 10])?;
@@ -102,6 +86,30 @@ fn refusals_are_named(rt: HostRuntime) -> Result<(), Fail> {
             Status::BadStream(0),
             10,
             "fault stream 0\n",
+        ),
+        (
+            [].as_slice(),
+            b"".as_slice(),
+            0,
+            Status::Usage,
+            2,
+            "fault usage\n",
+        ),
+        (
+            ["heard"].as_slice(),
+            b"".as_slice(),
+            0,
+            Status::Usage,
+            2,
+            "fault usage\n",
+        ),
+        (
+            ["hear", "x"].as_slice(),
+            b"".as_slice(),
+            0,
+            Status::Usage,
+            2,
+            "fault usage\n",
         ),
         (
             ["heard", "y"].as_slice(),
