@@ -1,5 +1,6 @@
 pub mod Prefixes
 pub mod Texts
+pub mod Readers
 pub mod Messages
 pub mod Buffers
 pub mod Causes
@@ -9,3 +10,4 @@ pub mod Parts
 pub mod Pages
 pub mod Headers
 pub mod Notices
+pub mod Actors

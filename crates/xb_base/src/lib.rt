@@ -7,6 +7,8 @@
 //! `MemSink` tell, `FileShelf` and `StdSink` adapt the real file and standard output and tell nothing.
 #![tactic(auto)]
 
+mod actor;
+mod bad;
 mod buf;
 mod header;
 pub mod laws;
@@ -18,6 +20,8 @@ mod real;
 mod shelf;
 mod text;
 
+pub use actor::{Event, Point, Side, helper_allowed};
+pub use bad::{BadKind, Part};
 pub use buf::Buf;
 pub use header::{HeaderFault, fault_in_header};
 pub use memory::{MemShelf, MemSink};
