@@ -1,0 +1,104 @@
+-- Fields of a TOML document, with the first fault: each step gives a value, or a fault with its kind and its place (this project's own).
+use Rattle.std.specs.Prelude.{ℕ, ◌+◌, Bool, List, [], ◌∷◌, ◌++◌, length, Option, Some, None, Result, Ok, Err, ok_or, ℤ, pos, negsuc, nat_le, ◌&&◌, if◌then◌else◌}
+use Rattle.std.specs.List.{list_any, list_all}
+use Rattle.std.specs.Str.{bytes_eq}
+use Rattle.toml.specs.Data.{Data, Items, no_items, item, Members, no_members, member, get_member, as_str, as_integer, as_array, as_table}
+use Rattle.xb_base.specs.declared.bad.BadKind.{BadKind}
+use Rattle.xb_base.specs.declared.bad.BadKind.TheVariants.{Shape, Key, Missing, Range, Count}
+use Rattle.xb_fields.specs.declared.fault.Bad.{Bad}
+use Rattle.xb_fields.specs.declared.fault.Place.{Place}
+
+-- what reading gives: a value, or the first fault
+abbrev pub Judged : Type 0 → Type 0
+Judged A = Result A Bad
+
+-- a step, and what follows where it gives a value
+infixl 10 ◌>>=◌
+abbrev pub ◌>>=◌ : {A B : Type 0} → Judged A → (A → Judged B) → Judged B
+(Ok x) >>= f = f x
+(Err bad) >>= f = Err bad
+
+-- a fault at a place, in no slot
+abbrev pub bad_at : Place → BadKind → Bad
+bad_at at kind = record { kind = kind; part = at.part; index = at.index; slot = 0 }
+
+-- a value that must be there
+abbrev pub found : {A : Type 0} → Place → BadKind → Option A → Judged A
+found at kind o = ok_or o (bad_at at kind)
+
+-- a test that must be passed
+abbrev pub must : Place → BadKind → Bool → Judged (Unit {0})
+must at kind test = if test then Ok tt else Err (bad_at at kind)
+
+-- the values of an array, in order
+abbrev pub data_of : Items → List Data
+data_of no_items = []
+data_of (item d others) = d ∷ data_of others
+
+-- the keys of a table
+abbrev pub keys_of : Members → List (List ℕ)
+keys_of no_members = []
+keys_of (member key d others) = key ∷ keys_of others
+
+-- one of some keys
+abbrev pub is_listed : List (List ℕ) → List ℕ → Bool
+is_listed listed key = list_any (bytes_eq key) listed
+
+-- a table that has listed keys alone
+unfoldable pub keys_listed : List (List ℕ) → Members → Bool
+keys_listed listed members = list_all (is_listed listed) (keys_of members)
+
+unfoldable pub table_with : Place → List (List ℕ) → Data → Judged Members
+table_with at listed d = do
+  members ← found at Shape (as_table d)
+  _ ← must at Key (keys_listed listed members)
+  Ok members
+
+-- a number that isn't negative and stands between a least and a most
+abbrev pub is_between : ℕ → ℕ → ℕ → Bool
+is_between least most n = nat_le least n && nat_le n most
+
+abbrev pub number_between : ℕ → ℕ → ℤ → Option ℕ
+number_between least most (pos n) = if is_between least most n then Some n else None
+number_between least most (negsuc n) = None
+
+unfoldable pub number : Place → ℕ → ℕ → Data → Judged ℕ
+number at least most d = do
+  z ← found at Shape (as_integer d)
+  found at Range (number_between least most z)
+
+-- a text, and what a reader takes from it
+unfoldable pub string_in : Place → Data → Judged (List ℕ)
+string_in at d = found at Shape (as_str d)
+
+abbrev pub text : {A : Type 0} → Place → (List ℕ → Option A) → Data → Judged A
+text at read d = do
+  written ← string_in at d
+  found at Range (read written)
+
+-- a list of at most so many values
+unfoldable pub list_of : Place → ℕ → Data → Judged (List Data)
+list_of at most d = do
+  items ← found at Shape (as_array d)
+  _ ← must at Count (nat_le (length (data_of items)) most)
+  Ok (data_of items)
+
+-- what stands at a key that must be there, and at one that may be absent
+unfoldable pub required : {A : Type 0} → Place → List ℕ → (Data → Judged A) → Members → Judged A
+required at key read members = do
+  d ← found at Missing (get_member key members)
+  read d
+
+unfoldable pub optional : {A : Type 0} → List ℕ → A → (Data → Judged A) → Members → Judged A
+optional key default read members = elim (get_member key members) [ None ↦ Ok default | Some d ↦ read d ]
+
+-- the entries that values give, in order, each judged by its position and the entries before it
+abbrev pub entries_from : {A : Type 0} → (ℕ → List A → Data → Judged A) → ℕ → List A → List Data → Judged (List A)
+entries_from judge position earlier [] = Ok earlier
+entries_from judge position earlier (d ∷ ds) = do
+  x ← judge position earlier d
+  entries_from judge (position + 1) (earlier ++ x ∷ []) ds
+
+-- positions are counted from 1
+unfoldable pub entries : {A : Type 0} → (ℕ → List A → Data → Judged A) → List Data → Judged (List A)
+entries judge ds = entries_from judge 1 [] ds

@@ -1,0 +1,114 @@
+// What stands at the keys of a table.
+ghost use Rattle.std.specs.Prelude.{◌≡◌, ◌≤◌, IfOk, [], length, map, string_bytes, option_map};
+ghost use Rattle.std.specs.Result.{result_map_both};
+ghost use Rattle.std.specs.List.{list_any, list_all};
+ghost use Rattle.std.specs.BTreeMap.{keys};
+ghost use Rattle.std.specs.Str.{bytes_eq};
+ghost use Rattle.toml.specs.Data.{get_member};
+ghost use Rattle.toml.specs.View.{view, table_view};
+ghost use Rattle.xb_base.specs.declared.bad.BadKind.TheVariants.{Missing};
+ghost use Rattle.xb_fields.specs.Fields.{keys_listed, found, number, string_in, list_of, required, optional};
+
+use crate::fault::{Bad, Place};
+use crate::value::{list_of, number, text};
+use toml::{Table, Value};
+use xb_base::BadKind;
+
+/// Whether a table has listed keys alone.
+pub fn keys_listed(listed: &[&str], table: &Table) -> bool
+    ensures { result ≡ keys_listed (map (λ key. key.now) listed.now) (table_view table.now) }
+{
+    all_listed(listed, table)
+}
+
+fn all_listed(listed: &[&str], table: &Table) -> bool
+    ensures { result ≡ list_all (λ key. list_any (λ one. bytes_eq (string_bytes key) one.now) listed.now) (keys table.now) }
+{
+    table.keys().all(|key| is_listed(listed, key.as_str()))
+}
+
+fn is_listed(listed: &[&str], key: &str) -> bool
+    ensures { result ≡ list_any (λ one. bytes_eq key.now one.now) listed.now }
+{
+    listed.iter().any(|one| key == *one)
+}
+
+fn value_at<'a>(table: &'a Table, key: &str) -> Option<&'a Value>
+    ensures { option_map (λ v. view v.now) result ≡ get_member key.now (table_view table.now) }
+{
+    table.get(key)
+}
+
+/// The value at a key that must be there.
+pub fn required<'a>(at: Place, key: &str, table: &'a Table) -> Result<&'a Value, Bad>
+    ensures { result_map_both (λ v. view v.now) (λ bad. bad) result ≡ found at Missing (get_member key.now (table_view table.now)) }
+{
+    match value_at(table, key) {
+        Some(value) => Ok(value),
+        None => Err(at.bad(BadKind::Missing)),
+    }
+}
+
+/// The number at a key that must be there.
+#[tactic(auto, unfolding(crate::specs::Fields::required))]
+pub fn required_number(
+    at: Place,
+    key: &str,
+    least: u32,
+    most: u32,
+    table: &Table,
+) -> Result<u32, Bad>
+    ensures value { result ≡ required at key.now (number at least most) (table_view table.now) }
+    ensures between { IfOk result (λ n. (least ≤ n) × (n ≤ most)) }
+{
+    match value_at(table, key) {
+        Some(value) => number(at, least, most, value),
+        None => Err(at.bad(BadKind::Missing)),
+    }
+}
+
+/// The number at a key that may be absent.
+#[tactic(auto, unfolding(crate::specs::Fields::optional))]
+pub fn optional_number(
+    at: Place,
+    key: &str,
+    default: u32,
+    least: u32,
+    most: u32,
+    table: &Table,
+) -> Result<u32, Bad>
+    ensures value { result ≡ optional key.now default (number at least most) (table_view table.now) }
+{
+    match value_at(table, key) {
+        Some(value) => number(at, least, most, value),
+        None => Ok(default),
+    }
+}
+
+/// The text at a key that must be there.
+#[tactic(auto, unfolding(crate::specs::Fields::required))]
+pub fn required_text<'a>(at: Place, key: &str, table: &'a Table) -> Result<&'a str, Bad>
+    ensures { result_map_both (λ s. s.now) (λ bad. bad) result ≡ required at key.now (string_in at) (table_view table.now) }
+{
+    match value_at(table, key) {
+        Some(value) => text(at, value),
+        None => Err(at.bad(BadKind::Missing)),
+    }
+}
+
+/// The values of the array at a key, which are none where it is absent.
+#[tactic(auto, unfolding(crate::specs::Fields::optional))]
+pub fn optional_list<'a>(
+    at: Place,
+    key: &str,
+    most: u32,
+    table: &'a Table,
+) -> Result<&'a [Value], Bad>
+    ensures values { result_map_both (λ vs. map view vs.now) (λ bad. bad) result ≡ optional key.now [] (list_of at most) (table_view table.now) }
+    ensures count { IfOk result (λ vs. length vs.now ≤ most) }
+{
+    match value_at(table, key) {
+        Some(value) => list_of(at, most, value),
+        None => Ok(&[]),
+    }
+}
