@@ -1,10 +1,13 @@
 -- Fields of a TOML document, with the first fault: each step gives a value, or a fault with its kind and its place (this project's own).
 use Rattle.std.specs.Prelude.{ℕ, ◌+◌, Bool, List, [], ◌∷◌, ◌++◌, length, Option, Some, None, Result, Ok, Err, ok_or, ℤ, pos, negsuc, nat_le, ◌&&◌, if◌then◌else◌}
 use Rattle.std.specs.List.{list_any, list_all}
-use Rattle.std.specs.Str.{bytes_eq}
+use Rattle.std.specs.Str.{bytes_eq, is_utf8}
+use Rattle.toml.specs.Parse.{parse_document}
 use Rattle.toml.specs.Data.{Data, Items, no_items, item, Members, no_members, member, get_member, as_str, as_integer, as_array, as_table}
 use Rattle.xb_base.specs.declared.bad.BadKind.{BadKind}
-use Rattle.xb_base.specs.declared.bad.BadKind.TheVariants.{Shape, Key, Missing, Range, Count}
+use Rattle.xb_base.specs.declared.bad.BadKind.TheVariants.{Text, Shape, Key, Missing, Range, Count}
+use Rattle.xb_base.specs.declared.bad.Part.{Part}
+use Rattle.xb_base.specs.declared.bad.Part.TheVariants.{Top}
 use Rattle.xb_fields.specs.declared.fault.Bad.{Bad}
 use Rattle.xb_fields.specs.declared.fault.Place.{Place}
 
@@ -18,6 +21,10 @@ abbrev pub ◌>>=◌ : {A B : Type 0} → Judged A → (A → Judged B) → Judg
 (Ok x) >>= f = f x
 (Err bad) >>= f = Err bad
 
+-- where a field stands: a part, and the position of its entry from 1, or 0
+abbrev pub place : Part → ℕ → Place
+place part index = record { part = part; index = index }
+
 -- a fault at a place, in no slot
 abbrev pub bad_at : Place → BadKind → Bad
 bad_at at kind = record { kind = kind; part = at.part; index = at.index; slot = 0 }
@@ -29,6 +36,10 @@ found at kind o = ok_or o (bad_at at kind)
 -- a test that must be passed
 abbrev pub must : Place → BadKind → Bool → Judged (Unit {0})
 must at kind test = if test then Ok tt else Err (bad_at at kind)
+
+-- the table that a text is (TOML 1.1)
+unfoldable pub document : List ℕ → Judged Members
+document octets = found (place Top 0) Text (if is_utf8 octets then parse_document octets else None)
 
 -- the values of an array, in order
 abbrev pub data_of : Items → List Data
@@ -46,13 +57,13 @@ is_listed listed key = list_any (bytes_eq key) listed
 
 -- a table that has listed keys alone
 unfoldable pub keys_listed : List (List ℕ) → Members → Bool
-keys_listed listed members = list_all (is_listed listed) (keys_of members)
+keys_listed listed ms = list_all (is_listed listed) (keys_of ms)
 
 unfoldable pub table_with : Place → List (List ℕ) → Data → Judged Members
 table_with at listed d = do
-  members ← found at Shape (as_table d)
-  _ ← must at Key (keys_listed listed members)
-  Ok members
+  ms ← found at Shape (as_table d)
+  _ ← must at Key (keys_listed listed ms)
+  Ok ms
 
 -- a number that isn't negative and stands between a least and a most
 abbrev pub is_between : ℕ → ℕ → ℕ → Bool
@@ -85,12 +96,12 @@ list_of at most d = do
 
 -- what stands at a key that must be there, and at one that may be absent
 unfoldable pub required : {A : Type 0} → Place → List ℕ → (Data → Judged A) → Members → Judged A
-required at key read members = do
-  d ← found at Missing (get_member key members)
+required at key read ms = do
+  d ← found at Missing (get_member key ms)
   read d
 
 unfoldable pub optional : {A : Type 0} → List ℕ → A → (Data → Judged A) → Members → Judged A
-optional key default read members = elim (get_member key members) [ None ↦ Ok default | Some d ↦ read d ]
+optional key default read ms = elim (get_member key ms) [ None ↦ Ok default | Some d ↦ read d ]
 
 -- the entries that values give, in order, each judged by its position and the entries before it
 abbrev pub entries_from : {A : Type 0} → (ℕ → List A → Data → Judged A) → ℕ → List A → List Data → Judged (List A)

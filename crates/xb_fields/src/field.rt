@@ -33,7 +33,8 @@ fn is_listed(listed: &[&str], key: &str) -> bool
     listed.iter().any(|one| key == *one)
 }
 
-fn value_at<'a>(table: &'a Table, key: &str) -> Option<&'a Value>
+/// The value at a key.
+pub fn value_at<'a>(table: &'a Table, key: &str) -> Option<&'a Value>
     ensures { option_map (λ v. view v.now) result ≡ get_member key.now (table_view table.now) }
 {
     table.get(key)

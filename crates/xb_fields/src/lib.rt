@@ -5,12 +5,14 @@
 //! What a reader that takes memory says is in `specs/Outcomes`. It stands on `xb_base`, for the words of faults, and on `toml`.
 #![tactic(auto)]
 
+mod document;
 mod fault;
 mod field;
 mod value;
 
+pub use document::read_document;
 pub use fault::{Bad, FieldError, Place};
 pub use field::{
-    keys_listed, optional_list, optional_number, required, required_number, required_text,
+    keys_listed, optional_list, optional_number, required, required_number, required_text, value_at,
 };
 pub use value::{list_of, number, table_with, text};
