@@ -1,6 +1,6 @@
 use crate::{
     Buf, FileShelf, MemShelf, MemSink, Prefix, Shelf, Sink, StdSink, push_decimal, push_dotted,
-    push_hex, push_prefix,
+    push_hex, push_prefix, read_decimal, read_dotted, read_prefix,
 };
 use std::fs;
 use std::test::Fail;
@@ -27,6 +27,22 @@ fn texts_are_written(rt: HostRuntime) -> Result<(), Fail> {
         buf.as_slice(),
         b"10.0.0.0/24de0a-192.0.2.25418446744073709551615".as_slice()
     );
+    Ok(())
+}
+
+#[test]
+fn texts_are_read(rt: HostRuntime) -> Result<(), Fail> {
+    assert_eq!(rt; read_decimal(b"0"), Some(0));
+    assert_eq!(rt; read_decimal(b"05"), None);
+    assert_eq!(rt; read_decimal(b""), None);
+    assert_eq!(rt; read_decimal(b"18446744073709551615"), Some(u64::MAX));
+    assert_eq!(rt; read_decimal(b"18446744073709551616"), None);
+    assert_eq!(rt; read_dotted(b"10.0.0.1"), Some(0x0a00_0001));
+    assert_eq!(rt; read_dotted(b"10.0.0"), None);
+    assert_eq!(rt; read_dotted(b"10.0.0.256"), None);
+    assert_eq!(rt; read_prefix(b"10.0.0.255/24"), Prefix::new(0x0a00_0000, 24));
+    assert_eq!(rt; read_prefix(b"10.0.0.0/33"), None);
+    assert_eq!(rt; read_prefix(b"10.0.0.0/024"), None);
     Ok(())
 }
 
