@@ -4,14 +4,20 @@ use Rattle.std.proofs.lemmas.Bool.{lt-ltb, le-ltb}
 use Rattle.xb_base.specs.Causes.{Files, file_named, Rose, IsMissing, TookFront}
 use Rattle.xb_base.proofs.PageLemmas.{and_then-nil}
 use Rattle.bgp_update.specs.Heard.{heard}
+use Rattle.std.specs.Option.{option_map}
+use Rattle.xbgp_top.specs.declared.input.Unread.{Unread}
+use Rattle.xbgp_top.specs.declared.input.Unread.TheVariants as reasons
+use Rattle.xbgp_top.specs.declared.input.Unread.TheVariants.{Long, Fault}
+use Rattle.xbgp_top.specs.Inputs.{IsWhole, IsLong, IsUnread}
+use Rattle.xbgp_top.specs.declared.status.File.{File}
 use Rattle.xbgp_top.specs.declared.status.File.TheVariants.{Input}
 use Rattle.xbgp_top.specs.declared.status.Status.{Status}
 use Rattle.xbgp_top.specs.declared.status.Status.TheVariants.{Done, Usage, ReadFault, WriteFault, OutOfMemory, TooLong}
 use Rattle.xbgp_top.specs.declared.command.Job.{Job}
 use Rattle.xbgp_top.specs.declared.command.Job.TheVariants.{Heard, Judge}
-use Rattle.xbgp_top.specs.Answers.{Answer, answered, answer, command_answer, job_answer, judge_line, messages_of, place_of_rest, usage_answer, input_limit, fault_line, bad_stream, table_lines, end_line}
+use Rattle.xbgp_top.specs.Answers.{Answer, answered, answer, command_answer, job_answer, judge_line, messages_of, place_of_rest, usage_answer, input_limit, long_answer, with_input, bad_stream, table_lines, end_line}
 use Rattle.xbgp_top.specs.Commands.{on_file, command_of}
-use Rattle.xbgp_top.specs.Outputs.{Writes}
+use Rattle.xbgp_top.specs.Outputs.{Stopped, Writes}
 use Rattle.xbgp_top.specs.Top.{Explains, IsAnswered, SaysMissing, told_answer}
 use Rattle.std.specs.Prelude.{codes, ◌∷◌, ◌++◌}
 
@@ -43,29 +49,121 @@ explains_written told a reads_before reads_now writes_before writes_now before n
     front None e = tt
     front (Some t) e = subst (λ (x : Answer). TookFront before now x.text) (sym e) w.front
 
--- what is answered to octets that were read whole
-pub job_is_told : (job : Job) (held : Option Files) (name octets : List ℕ) → MatchOption held (Unit {0}) (λ files. (file_named files name ≡ Some octets) × (length octets ≤ input_limit))
-    → IfSome (told_answer (Some (on_file job name)) held) (λ t. t ≡ job_answer job octets)
-unfolding command_answer
-job_is_told job None name octets read = tt
-job_is_told job (Some files) name octets read =
-    let fits : nat_lt input_limit (length octets) ≡ false = le-ltb input_limit (length octets) read.1 in
-    let long = answered (TooLong Input) (fault_line (codes "long" ∷ codes "input" ∷ [])) in
-    ap (λ (o : Option (List ℕ)). elim o as (λ x. Answer) [ None ↦ answered ReadFault [] | Some s ↦ if nat_lt input_limit (length s) then long else job_answer job s ]) read.0
-    ∙ ap (λ (b : Bool). if b then long else job_answer job octets) fits
+-- want of memory, before anything was written
+pub explains_memory : (told : Option Answer) (reads writes : ℕ) (before : Option (List ℕ)) → Explains told reads reads writes writes before before OutOfMemory
+explains_memory told reads writes before =
+    record {
+      exact = elim told as (λ o. IfSome o (λ answer. ¬ Rose reads reads → ¬ Rose writes writes → OutOfMemory ≢ OutOfMemory → IsAnswered answer before before OutOfMemory)) [
+        | None ↦ tt
+        | Some a ↦ λ no_read no_write memory. absurd (memory refl)
+      ];
+      front = elim told as (λ o. IfSome o (λ answer. TookFront before before answer.text)) [ None ↦ tt | Some a ↦ (0, and_then-nil before) ];
+      read_fault = λ e. absurd (cc e);
+      write_fault = λ e. absurd (cc e);
+      quiet_reads = λ x y. refl;
+      quiet_writes = λ x y. refl;
+      later_reads = omega arith;
+      later_writes = omega arith;
+    }
 
--- and to an input that is longer than its limit
-pub long_is_told : (job : Job) (held : Option Files) (name : List ℕ) → MatchOption held (Unit {0}) (λ files. MatchOption (file_named files name) ⊥ (λ octets. input_limit < length octets))
-    → IfSome (told_answer (Some (on_file job name)) held) (λ t. t ≡ answered (TooLong Input) (fault_line (codes "long" ∷ codes "input" ∷ [])))
+-- what is answered to an input: the octets of the file, or that it is too long, or that it is not held
+module _ (file : File) (name : List ℕ) (go : Files → List ℕ → Answer) where
+  abbrev after_input : Files → Option (List ℕ) → Answer
+  after_input files o = elim o as (λ x. Answer) [ None ↦ answered ReadFault [] | Some octets ↦ if nat_lt input_limit (length octets) then long_answer file else go files octets ]
+
+  pub whole_is_told : (held : Option Files) (octets : List ℕ) → IsWhole held name octets
+      → option_map (λ files. with_input file files name (go files)) held ≡ option_map (λ files. go files octets) held
+  whole_is_told None octets read = refl
+  whole_is_told (Some files) octets read =
+      let fits : nat_lt input_limit (length octets) ≡ false = le-ltb input_limit (length octets) read.1 in
+      ap Some (ap (after_input files) read.0 ∙ ap (λ (b : Bool). if b then long_answer file else go files octets) fits)
+
+  pub long_is_told : (held : Option Files) → IsLong held name → IfSome (option_map (λ files. with_input file files name (go files)) held) (λ t. t ≡ long_answer file)
+  long_is_told None long = tt
+  long_is_told (Some files) long =
+      elim (file_named files name) as (λ o. MatchOption o ⊥ (λ octets. input_limit < length octets) → after_input files o ≡ long_answer file) [
+        | None ↦ λ l. absurd l
+        | Some octets ↦ λ l. let past : nat_lt input_limit (length octets) ≡ true = lt-ltb input_limit (length octets) l in rw past refl
+      ] long
+
+  missing_is_told : (files : Files) → IsNone (file_named files name) → with_input file files name (go files) ≡ answered ReadFault []
+  missing_is_told files missing =
+      elim (file_named files name) as (λ o. IsNone o → after_input files o ≡ answered ReadFault []) [
+        | None ↦ λ n. refl
+        | Some octets ↦ λ n. absurd (cc n)
+      ] missing
+
+  -- an input that could not be read
+  explains_fault : (held : Option Files) (reads_before reads_now writes : ℕ) (before : Option (List ℕ))
+      → reads_before ≤ reads_now → Rose reads_before reads_now ⊎ IsMissing held name
+      → Explains (option_map (λ files. with_input file files name (go files)) held) reads_before reads_now writes writes before before ReadFault
+  explains_fault None reads_before reads_now writes before later cause =
+      record {
+        exact = tt;
+        front = tt;
+        read_fault = λ e. elim cause as (λ _. Rose reads_before reads_now ⊎ IsSomeAnd (option_map (λ files. with_input file files name (go files)) None) (λ a. a.status ≡ ReadFault)) [ inl rose ↦ inl rose | inr missing ↦ absurd missing ];
+        write_fault = λ e. absurd (cc e);
+        quiet_reads = λ x y. absurd (x refl);
+        quiet_writes = λ x y. refl;
+        later_reads = later;
+        later_writes = omega arith;
+      }
+  explains_fault (Some files) reads_before reads_now writes before later cause =
+      record {
+        exact = λ no_read no_write memory.
+            elim cause as (λ _. IsAnswered (with_input file files name (go files)) before before ReadFault) [
+              | inl rose ↦ absurd (no_read rose)
+              | inr missing ↦ subst (λ (a : Answer). IsAnswered a before before ReadFault) (sym (missing_is_told files missing)) (refl, λ x. absurd (x refl))
+            ];
+        front = (0, and_then-nil before);
+        read_fault = λ e.
+            elim cause as (λ _. Rose reads_before reads_now ⊎ ((with_input file files name (go files)).status ≡ ReadFault)) [
+              | inl rose ↦ inl rose
+              | inr missing ↦ inr (ap (λ (a : Answer). a.status) (missing_is_told files missing))
+            ];
+        write_fault = λ e. absurd (cc e);
+        quiet_reads = λ x y. absurd (x refl);
+        quiet_writes = λ x y. refl;
+        later_reads = later;
+        later_writes = omega arith;
+      }
+
+  -- an input was not read, and that was answered
+  pub explains_unread : (held : Option Files) (why : Unread) (reads_before reads_now writes_before writes_now : ℕ) (before now : Option (List ℕ)) (status : Status)
+      → IsUnread held name reads_before reads_now why → Stopped file why before now writes_before writes_now status
+      → Explains (option_map (λ files. with_input file files name (go files)) held) reads_before reads_now writes_before writes_now before now status
+  explains_unread held Long reads_before reads_now writes_before writes_now before now status unread stopped =
+      explains_written _ (long_answer file) reads_before reads_now writes_before writes_now before now status (long_is_told held unread.0) unread.1 (λ e. cc e) stopped
+  explains_unread held Fault reads_before reads_now writes_before writes_now before now status unread stopped =
+      let told = option_map (λ files. with_input file files name (go files)) held in
+      subst (λ (s : Status). Explains told reads_before reads_now writes_before writes_now before now s) (sym stopped.0)
+      (subst (λ (o : Option (List ℕ)). Explains told reads_before reads_now writes_before writes_now before o ReadFault) (sym stopped.1)
+      (subst (λ (w : ℕ). Explains told reads_before reads_now writes_before w before before ReadFault) (sym stopped.2)
+      (explains_fault held reads_before reads_now writes_before before unread.0 unread.1)))
+  explains_unread held reasons.OutOfMemory reads_before reads_now writes_before writes_now before now status unread stopped =
+      let told = option_map (λ files. with_input file files name (go files)) held in
+      subst (λ (s : Status). Explains told reads_before reads_now writes_before writes_now before now s) (sym stopped.0)
+      (subst (λ (o : Option (List ℕ)). Explains told reads_before reads_now writes_before writes_now before o OutOfMemory) (sym stopped.1)
+      (subst (λ (w : ℕ). Explains told reads_before reads_now writes_before w before before OutOfMemory) (sym stopped.2)
+      (subst (λ (r : ℕ). Explains told reads_before r writes_before writes_before before before OutOfMemory) (sym unread)
+      (explains_memory told reads_before writes_before before))))
+
+-- what is known of the answer about one file
+pub file_is_told : (job : Job) (name : List ℕ) (held : Option Files)
+    → told_answer (Some (on_file job name)) held ≡ option_map (λ files. with_input Input files name (job_answer job)) held
 unfolding command_answer
-long_is_told job None name long = tt
-long_is_told job (Some files) name long =
-    elim (file_named files name) as (λ o. MatchOption o ⊥ (λ octets. input_limit < length octets)
-    → elim o as (λ x. Answer) [ None ↦ answered ReadFault [] | Some octets ↦ if nat_lt input_limit (length octets) then answered (TooLong Input) (fault_line (codes "long" ∷ codes "input" ∷ [])) else job_answer job octets ]
-    ≡ answered (TooLong Input) (fault_line (codes "long" ∷ codes "input" ∷ []))) [
-      | None ↦ λ l. absurd l
-      | Some octets ↦ λ l. let past : nat_lt input_limit (length octets) ≡ true = lt-ltb input_limit (length octets) l in rw past refl
-    ] long
+file_is_told job name held = refl
+
+-- the same is known, and the same explains it
+pub explains_as : (told other : Option Answer) (reads_before reads_now writes_before writes_now : ℕ) (before now : Option (List ℕ)) (status : Status) → told ≡ other
+    → Explains other reads_before reads_now writes_before writes_now before now status → Explains told reads_before reads_now writes_before writes_now before now status
+explains_as told other reads_before reads_now writes_before writes_now before now status is e =
+    subst (λ o. Explains o reads_before reads_now writes_before writes_now before now status) (sym is) e
+
+-- of all that may be held the answer is the same
+pub same_for_all : (a : Answer) (held : Option Files) → IfSome (option_map (λ files. a) held) (λ t. t ≡ a)
+same_for_all a None = tt
+same_for_all a (Some files) = refl
 
 -- no answer about octets that were read says that they were not, nor that no command was given
 pub is_of_octets : (job : Job) (octets : List ℕ) → ((job_answer job octets).status ≢ ReadFault) × ((job_answer job octets).status ≢ Usage)
@@ -81,51 +179,6 @@ is_of_octets Judge octets =
       | None ↦ (λ e. cc e, λ e. cc e)
       | Some at ↦ (λ e. cc e, λ e. cc e)
     ]
-
-missing_answer : (job : Job) (files : Files) (name : List ℕ) → IsNone (file_named files name) → command_answer (on_file job name) files ≡ answered ReadFault []
-unfolding command_answer
-missing_answer job files name missing =
-    elim (file_named files name) as (λ o. IsNone o
-    → elim o as (λ x. Answer) [ None ↦ answered ReadFault [] | Some octets ↦ if nat_lt input_limit (length octets) then answered (TooLong Input) (fault_line (codes "long" ∷ codes "input" ∷ [])) else job_answer job octets ]
-    ≡ answered ReadFault []) [
-      | None ↦ λ n. refl
-      | Some octets ↦ λ n. absurd (cc n)
-    ] missing
-
--- an input that could not be read
-pub explains_fault : (job : Job) (held : Option Files) (name : List ℕ) (reads_before reads_now writes : ℕ) (before : Option (List ℕ))
-    → reads_before ≤ reads_now → Rose reads_before reads_now ⊎ IsMissing held name
-    → Explains (told_answer (Some (on_file job name)) held) reads_before reads_now writes writes before before ReadFault
-explains_fault job None name reads_before reads_now writes before later cause =
-    record {
-      exact = tt;
-      front = tt;
-      read_fault = λ e. elim cause as (λ _. Rose reads_before reads_now ⊎ IsSomeAnd (told_answer (Some (on_file job name)) None) (λ a. a.status ≡ ReadFault)) [ inl rose ↦ inl rose | inr missing ↦ absurd missing ];
-      write_fault = λ e. absurd (cc e);
-      quiet_reads = λ x y. absurd (x refl);
-      quiet_writes = λ x y. refl;
-      later_reads = later;
-      later_writes = omega arith;
-    }
-explains_fault job (Some files) name reads_before reads_now writes before later cause =
-    record {
-      exact = λ no_read no_write memory.
-          elim cause as (λ _. IsAnswered (command_answer (on_file job name) files) before before ReadFault) [
-            | inl rose ↦ absurd (no_read rose)
-            | inr missing ↦ subst (λ (a : Answer). IsAnswered a before before ReadFault) (sym (missing_answer job files name missing)) (refl, λ x. absurd (x refl))
-          ];
-      front = (0, and_then-nil before);
-      read_fault = λ e.
-          elim cause as (λ _. Rose reads_before reads_now ⊎ ((command_answer (on_file job name) files).status ≡ ReadFault)) [
-            | inl rose ↦ inl rose
-            | inr missing ↦ inr (ap (λ (a : Answer). a.status) (missing_answer job files name missing))
-          ];
-      write_fault = λ e. absurd (cc e);
-      quiet_reads = λ x y. absurd (x refl);
-      quiet_writes = λ x y. refl;
-      later_reads = later;
-      later_writes = omega arith;
-    }
 
 -- what is known of the answer, where the shelf tells
 told_is : (words : List (List ℕ)) (held : Option Files) (files : Files) → held ≡ Some files → told_answer (command_of words) held ≡ Some (answer words files)

@@ -9,6 +9,7 @@ use Rattle.bgp_update.specs.Walks.{Found, found}
 use Rattle.bgp_check.specs.Judgement.{judge}
 use Rattle.xb_words.specs.Cut.{placed}
 use Rattle.std.specs.List.{concat}
+use Rattle.xbgp_top.specs.declared.status.File.{File}
 use Rattle.xbgp_top.specs.declared.status.File.TheVariants.{Input}
 use Rattle.xbgp_top.specs.declared.status.Status.{Status}
 use Rattle.xbgp_top.specs.declared.status.Status.TheVariants.{Done, Usage, ReadFault, TooLong, BadStream}
@@ -37,12 +38,18 @@ usage_answer = answered Usage (fault_line (codes "usage" ∷ []))
 abbrev pub input_limit : ℕ
 input_limit = 1048576
 
--- an input that is read whole: its name is held, and it is within its limit
-abbrev pub with_input : Files → List ℕ → (List ℕ → Answer) → Answer
-with_input files name go =
+abbrev pub file_word : File → List ℕ
+file_word Input = codes "input"
+
+abbrev pub long_answer : File → Answer
+long_answer file = answered (TooLong file) (fault_line (codes "long" ∷ file_word file ∷ []))
+
+-- an input that is read whole at its turn: its name is held, and it is within its limit
+abbrev pub with_input : File → Files → List ℕ → (List ℕ → Answer) → Answer
+with_input file files name go =
     elim (file_named files name) [
       | None ↦ answered ReadFault []
-      | Some octets ↦ if nat_lt input_limit (length octets) then answered (TooLong Input) (fault_line (codes "long" ∷ codes "input" ∷ [])) else go octets
+      | Some octets ↦ if nat_lt input_limit (length octets) then long_answer file else go octets
     ]
 
 abbrev pub bad_stream : ℕ → Answer
@@ -95,7 +102,7 @@ job_answer Heard octets = heard_answer octets
 job_answer Judge octets = judge_answer octets
 
 unfoldable pub command_answer : Command → Files → Answer
-command_answer (on_file job name) files = with_input files name (job_answer job)
+command_answer (on_file job name) files = with_input Input files name (job_answer job)
 
 -- words that are no command are bad usage
 unfoldable pub answer : List (List ℕ) → Files → Answer

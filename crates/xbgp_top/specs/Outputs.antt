@@ -2,9 +2,13 @@
 use Rattle.std.specs.Prelude.{◌≡◌, ◌≢◌, ◌⊎◌, ℕ, ◌≤◌, List, [], ◌++◌, Option, Result, Ok, Err}
 use Rattle.xb_base.specs.Causes.{Rose, TookFront, and_then}
 use Rattle.xb_base.specs.Pages.{Gathered}
-use Rattle.xbgp_top.specs.Answers.{Answer}
+use Rattle.xbgp_top.specs.Answers.{Answer, long_answer}
+use Rattle.xbgp_top.specs.declared.input.Unread.{Unread}
+use Rattle.xbgp_top.specs.declared.input.Unread.TheVariants as reasons
+use Rattle.xbgp_top.specs.declared.input.Unread.TheVariants.{Long, Fault}
+use Rattle.xbgp_top.specs.declared.status.File.{File}
 use Rattle.xbgp_top.specs.declared.status.Status.{Status}
-use Rattle.xbgp_top.specs.declared.status.Status.TheVariants.{WriteFault, OutOfMemory}
+use Rattle.xbgp_top.specs.declared.status.Status.TheVariants.{ReadFault, WriteFault, OutOfMemory}
 
 -- an answer was to be written, and ended with a status
 pub record Writes (answer : Answer) (before now : Option (List ℕ)) (faults_before faults_now : ℕ) (status : Status) : Type 0 where
@@ -28,3 +32,9 @@ pub record Stops (before now : Option (List ℕ)) (whole : List ℕ) (faults_bef
 abbrev pub Gathers : Option (List ℕ) → Option (List ℕ) → List ℕ → List ℕ → List ℕ → ℕ → ℕ → Result (Unit {0}) Status → Type 0
 Gathers before now page next text faults_before faults_now (Ok done) = Gathered before now (page ++ text) next [] × (faults_now ≡ faults_before)
 Gathers before now page next text faults_before faults_now (Err status) = Stops before now (page ++ text) faults_before faults_now status
+
+-- an input was not read: its line is written where it is too long, and else nothing
+abbrev pub Stopped : File → Unread → Option (List ℕ) → Option (List ℕ) → ℕ → ℕ → Status → Type 0
+Stopped file Long before now faults_before faults_now status = Writes (long_answer file) before now faults_before faults_now status
+Stopped file Fault before now faults_before faults_now status = (status ≡ ReadFault) × (now ≡ before) × (faults_now ≡ faults_before)
+Stopped file reasons.OutOfMemory before now faults_before faults_now status = (status ≡ OutOfMemory) × (now ≡ before) × (faults_now ≡ faults_before)

@@ -1,13 +1,13 @@
 ghost use Rattle.std.specs.Prelude.{◌≡◌, ◌≢◌, ◌≤◌, ◌⊎◌, Some, map, string_bytes};
 ghost use Rattle.xb_base.specs.Causes.{Files, Rose, TookFront};
-ghost use Rattle.xbgp_top.specs.Answers.{answer, job_answer};
+ghost use Rattle.xbgp_top.specs.Answers.{answer, job_answer, long_answer};
 ghost use Rattle.xbgp_top.specs.Commands.{command_of, on_file};
-ghost use Rattle.xbgp_top.specs.Outputs.{Writes};
+ghost use Rattle.xbgp_top.specs.Outputs.{Stopped, Writes};
 ghost use Rattle.xbgp_top.specs.Top.{Explains, IsAnswered, IsUsage, SaysMissing, told_answer};
 
 use crate::command::{Command, Job, command_in};
 use crate::hear::print_heard;
-use crate::input::{Input, read_input};
+use crate::input::{Unread, read_input};
 use crate::judge::print_judged;
 use crate::output::say;
 use crate::{File, Status};
@@ -24,6 +24,26 @@ fn print_job<K: Sink>(alloc: Global, job: Job, octets: &[u8], sink: &mut K) -> S
     }
 }
 
+// The line that says that an input is too long.
+fn long_line(file: File) -> &'static [u8]
+    ensures { result.now ≡ (long_answer file).text }
+{
+    match file {
+        File::Input => b"fault long input\n",
+    }
+}
+
+// Answers that an input was not read.
+fn not_read<K: Sink>(file: File, why: Unread, sink: &mut K) -> Status
+    ensures { Stopped file why (K.took sink.old) (K.took sink.new) (K.faults sink.old) (K.faults sink.new) result }
+{
+    match why {
+        Unread::Long => say(sink, long_line(file), Status::TooLong(file)),
+        Unread::Fault => Status::ReadFault,
+        Unread::OutOfMemory => Status::OutOfMemory,
+    }
+}
+
 // Reads a file and answers what is asked about it.
 fn ask_file<S: Shelf, K: Sink>(
     alloc: Global,
@@ -36,10 +56,8 @@ fn ask_file<S: Shelf, K: Sink>(
     ensures command { result ≢ Status.Usage }
 {
     match read_input(alloc, shelf, name) {
-        Input::Octets(octets) => print_job(alloc, job, &octets, sink),
-        Input::Long => say(sink, b"fault long input\n", Status::TooLong(File::Input)),
-        Input::Fault => Status::ReadFault,
-        Input::OutOfMemory => Status::OutOfMemory,
+        Ok(octets) => print_job(alloc, job, &octets, sink),
+        Err(why) => not_read(File::Input, why, sink),
     }
 }
 
