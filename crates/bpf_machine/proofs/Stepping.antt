@@ -1,14 +1,14 @@
 -- One instruction by its class, from what the parts of the code say.
-use Rattle.std.proofs.Common.{◌≡◌, ◌≢◌, refl, sym, ap, ◌∙◌, subst, ℕ, ◌+◌, ◌%◌, ◌<◌, ◌^◌, Bool, true, false, List, arith, inl, inr, ◌⊎◌}
-use Rattle.std.specs.Prelude.{slice_set, ◌==◌, ◌||◌, if◌then◌else◌}
+use Rattle.std.proofs.Common.{◌≡◌, ◌≢◌, refl, sym, ap, ◌∙◌, subst, ℕ, ◌+◌, ◌%◌, ◌<◌, ◌^◌, List, inl, inr, ◌⊎◌}
+use Rattle.std.specs.Prelude.{slice_set}
 use Rattle.std.proofs.lemmas.Bool.{eq-eqb, ne_eqb}
 use Rattle.std.proofs.Math.Nat.{mod-eq_of_lt}
 use Rattle.bpf_mem.specs.Memory.{Memory, load, store}
 use Rattle.bpf_insn.specs.declared.insn.Insn.{Insn}
 use Rattle.bpf_insn.specs.Slots.{insn_at, word}
 use Rattle.bpf_insn.specs.Forms.{class, code_of}
-use Rattle.bpf_machine.specs.Words.{low, result_of, converted}
-use Rattle.bpf_machine.specs.Steps.{Machine, Did, goes, reg, operand, computed, jumps, address, size_of, loads, stores, sets, does, insn}
+use Rattle.bpf_machine.specs.Words.{low, result_of}
+use Rattle.bpf_machine.specs.Steps.{Did, goes, reg, operand, computed, jumps, address, size_of, loads, stores, sets, does, insn}
 use Rattle.bpf_machine.specs.declared.step.Step.{Step}
 use Rattle.bpf_machine.specs.Does.{Does, machine}
 

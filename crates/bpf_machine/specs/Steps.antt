@@ -1,6 +1,6 @@
 -- One instruction (RFC 9669, 4 and 5), by its class: eleven numbers below 2^64, memory, a place, and the code's octets.
 -- The loader takes no other opcodes than those of the profile, so nothing is said of others.
-use Rattle.std.specs.Prelude.{ℕ, ◌+◌, ◌*◌, ◌/◌, ◌%◌, ◌^◌, Bool, List, [], ◌∷◌, slice_index, slice_set, Option, Some, None, ◌==◌, ◌||◌, if◌then◌else◌, length}
+use Rattle.std.specs.Prelude.{ℕ, ◌+◌, ◌/◌, ◌%◌, ◌^◌, Bool, List, [], ◌∷◌, slice_index, slice_set, Option, Some, None, ◌==◌, ◌||◌, if◌then◌else◌, length}
 use Rattle.bpf_mem.specs.Memory.{Memory, load, store, window_base, stack_base, stack_size}
 use Rattle.bpf_insn.specs.declared.insn.Insn.{Insn}
 use Rattle.bpf_insn.specs.Slots.{insn_at, word}

@@ -5,9 +5,9 @@ ghost use Rattle.bpf_machine.specs.Words.{moved, result_of, holds, converted};
 ghost use Rattle.bpf_machine.specs.Steps.{computed, is_taken, size_of, loaded};
 
 use crate::words::{
-    extended_8, extended_16, extended_32, is_below_32, is_below_64, low_32, low_bits, offset_word, short_8,
-    short_16, shifted_signed_32, shifted_signed_64, signed_quotient_32, signed_quotient_64,
-    signed_remainder_32, signed_remainder_64, turned_round,
+    extended_8, extended_16, extended_32, is_below_32, is_below_64, low_32, low_bits, offset_word,
+    shifted_signed_32, shifted_signed_64, short_8, short_16, signed_quotient_32,
+    signed_quotient_64, signed_remainder_32, signed_remainder_64, turned_round,
 };
 use bpf_insn::Insn;
 use bpf_insn::forms::{class, code_of};

@@ -1,7 +1,8 @@
 // One instruction.
 ghost use Rattle.std.specs.Prelude.{◌≡◌, ℕ, List, ◌<◌, ◌≤◌, ◌+◌, ◌%◌, ◌^◌, IsTrue};
 ghost use Rattle.bpf_mem.specs.Memory.{Memory, load, store};
-ghost use Rattle.bpf_insn.specs.Slots.{word};
+ghost use Rattle.bpf_insn.specs.Slots.{word, raw_imm, insn_at};
+ghost use Rattle.bpf_insn.specs.Sound.{IsSound};
 ghost use Rattle.bpf_insn.specs.Loading.{begins};
 ghost use Rattle.bpf_machine.specs.Steps.{reg, operand, computed, address, jumped, size_of, sets, jumps, loads, stores, insn};
 ghost use Rattle.bpf_machine.specs.Does.{Does, machine};
@@ -14,7 +15,7 @@ use bpf_mem::Memory;
 
 /// What an instruction did to the place, beside what it did to registers and memory.
 #[derive(Clone, Copy)]
-pub enum Step {
+pub(crate) enum Step {
     /// The program goes on at a slot.
     Goes(u64),
     /// The program ended with r0.
@@ -116,7 +117,7 @@ fn arithmetic(insn: Insn, regs: &mut [u64; 11], place: u64) -> Step
 }
 
 /// The instruction at a place.
-pub fn take_step(
+pub(crate) fn take_step(
     code: &Code,
     regs: &mut [u64; 11],
     place: u64,
@@ -124,7 +125,9 @@ pub fn take_step(
 ) -> Step
     requires place { place < 4096 }
     requires begins { IsTrue (begins code.now place) }
-    ensures { Does (insn code.now (machine regs.old memory.old place)) result regs.old regs.new memory.old memory.new }
+    ensures low_half { (insn_at code.now place).imm % 2 ^ 32 ≡ raw_imm code.now place }
+    ensures sound { IsSound code.now place }
+    ensures does { Does (insn code.now (machine regs.old memory.old place)) result regs.old regs.new memory.old memory.new }
 {
     let insn = code.at(place as u32);
     let dst = usize::from(insn.dst);

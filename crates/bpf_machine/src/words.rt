@@ -68,7 +68,9 @@ pub(crate) fn signed_quotient_64(x: u64, y: u64) -> u64
     if y == 0 {
         return 0;
     }
-    x.cast_signed().wrapping_div(y.cast_signed()).cast_unsigned()
+    x.cast_signed()
+        .wrapping_div(y.cast_signed())
+        .cast_unsigned()
 }
 
 /// A signed quotient of 32 bits.
@@ -78,7 +80,9 @@ pub(crate) fn signed_quotient_32(x: u32, y: u32) -> u32
     if y == 0 {
         return 0;
     }
-    x.cast_signed().wrapping_div(y.cast_signed()).cast_unsigned()
+    x.cast_signed()
+        .wrapping_div(y.cast_signed())
+        .cast_unsigned()
 }
 
 /// A signed remainder of 64 bits.
@@ -88,7 +92,9 @@ pub(crate) fn signed_remainder_64(x: u64, y: u64) -> u64
     if y == 0 {
         return x;
     }
-    x.cast_signed().wrapping_rem(y.cast_signed()).cast_unsigned()
+    x.cast_signed()
+        .wrapping_rem(y.cast_signed())
+        .cast_unsigned()
 }
 
 /// A signed remainder of 32 bits.
@@ -98,7 +104,9 @@ pub(crate) fn signed_remainder_32(x: u32, y: u32) -> u32
     if y == 0 {
         return x;
     }
-    x.cast_signed().wrapping_rem(y.cast_signed()).cast_unsigned()
+    x.cast_signed()
+        .wrapping_rem(y.cast_signed())
+        .cast_unsigned()
 }
 
 /// A shift of 64 bits that keeps the sign.
