@@ -1,7 +1,7 @@
 // Code that was loaded.
-ghost use Rattle.std.specs.Prelude.{◌≡◌, ◌<◌, None, Some, IfOk, IsTrue, IsErrOf};
+ghost use Rattle.std.specs.Prelude.{◌≡◌, ◌<◌, ◌%◌, ◌^◌, None, Some, IfOk, IsTrue, IsErrOf};
 ghost use Rattle.bpf_insn.specs.Helpers.{allows};
-ghost use Rattle.bpf_insn.specs.Slots.{slots, slot_of, insn_at};
+ghost use Rattle.bpf_insn.specs.Slots.{slots, slot_of, raw_imm, insn_at};
 ghost use Rattle.bpf_insn.specs.Loading.{begins, load_fault};
 ghost use Rattle.bpf_insn.specs.Sound.{IsAccepted, IsSound};
 
@@ -67,6 +67,7 @@ impl Code {
     pub fn at(&self, i: u32) -> Insn
         requires { IsTrue (begins self.now i) }
         ensures value { result ≡ insn_at self.now i }
+        ensures low_half { result.imm % 2 ^ 32 ≡ raw_imm self.now i }
         ensures sound { IsSound self.now i }
     {
         let slot = Slot::read(&self.octets, i as usize);

@@ -1,0 +1,4 @@
+pub mod Signs
+pub mod Stepping
+pub mod Following
+pub mod Turns
