@@ -2,3 +2,4 @@ mod InputLemmas
 mod JudgeLemmas
 mod OutputLemmas
 mod TopLemmas
+pub mod ExecLemmas

@@ -2,6 +2,8 @@
 use Rattle.std.proofs.Common.{◌≡◌, ◌≢◌, ◌⊎◌, ℕ, ◌<◌, ◌≤◌, Bool, true, false, if◌then◌else◌, nat_lt, List, [], length, Option, Some, None, Ok, Err, flat_map, IfSome, IsNone, IsSomeAnd, MatchOption, refl, sym, ◌∙◌, ap, subst, inl, inr, arith}
 use Rattle.std.proofs.lemmas.Bool.{lt-ltb, le-ltb}
 use Rattle.xb_base.specs.Causes.{Files, file_named, Rose, IsMissing, TookFront}
+use Rattle.xb_base.specs.Texts.{line}
+use Rattle.bpf_insn.specs.Loading.{load_fault}
 use Rattle.xb_base.proofs.PageLemmas.{and_then-nil}
 use Rattle.bgp_update.specs.Heard.{heard}
 use Rattle.std.specs.Option.{option_map}
@@ -14,8 +16,8 @@ use Rattle.xbgp_top.specs.declared.status.File.TheVariants.{Input}
 use Rattle.xbgp_top.specs.declared.status.Status.{Status}
 use Rattle.xbgp_top.specs.declared.status.Status.TheVariants.{Done, Usage, ReadFault, WriteFault, OutOfMemory, TooLong}
 use Rattle.xbgp_top.specs.declared.command.Job.{Job}
-use Rattle.xbgp_top.specs.declared.command.Job.TheVariants.{Heard, Judge}
-use Rattle.xbgp_top.specs.Answers.{Answer, answered, answer, command_answer, job_answer, judge_line, messages_of, place_of_rest, usage_answer, input_limit, long_answer, with_input, bad_stream, table_lines, end_line}
+use Rattle.xbgp_top.specs.declared.command.Job.TheVariants.{Heard, Judge, Exec}
+use Rattle.xbgp_top.specs.Answers.{Answer, answered, answer, command_answer, job_answer, judge_line, messages_of, place_of_rest, usage_answer, input_limit, long_answer, with_input, alone, bad_code, end_words, no_helper, bad_stream, table_lines, end_line}
 use Rattle.xbgp_top.specs.Commands.{on_file, command_of}
 use Rattle.xbgp_top.specs.Outputs.{Stopped, Writes}
 use Rattle.xbgp_top.specs.Top.{Explains, IsAnswered, SaysMissing, told_answer}
@@ -178,6 +180,12 @@ is_of_octets Judge octets =
     × ((elim o as (λ x. Answer) [ None ↦ answered Done (flat_map judge_line (messages_of octets) ++ end_line) | Some at ↦ bad_stream at ]).status ≢ Usage)) [
       | None ↦ (λ e. cc e, λ e. cc e)
       | Some at ↦ (λ e. cc e, λ e. cc e)
+    ]
+is_of_octets Exec octets =
+    elim (load_fault no_helper octets) as (λ o. ((elim o as (λ x. Answer) [ None ↦ answered Done (line (end_words (alone octets)) ++ end_line) | Some fault ↦ bad_code fault ]).status ≢ ReadFault)
+    × ((elim o as (λ x. Answer) [ None ↦ answered Done (line (end_words (alone octets)) ++ end_line) | Some fault ↦ bad_code fault ]).status ≢ Usage)) [
+      | None ↦ (λ e. cc e, λ e. cc e)
+      | Some fault ↦ (λ e. cc e, λ e. cc e)
     ]
 
 -- what is known of the answer, where the shelf tells

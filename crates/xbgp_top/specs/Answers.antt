@@ -1,5 +1,5 @@
 -- The answer to the words of a command line: a status and a text, from the files that are held (this project's own).
-use Rattle.std.specs.Prelude.{ℕ, List, [], ◌∷◌, ◌++◌, length, map, flat_map, ◌==◌, Option, Some, None, Ok, Err, codes, decimal, nat_lt, if◌then◌else◌}
+use Rattle.std.specs.Prelude.{ℕ, Bool, false, List, [], ◌∷◌, ◌++◌, length, map, flat_map, ◌==◌, Option, Some, None, Ok, Err, codes, decimal, nat_lt, if◌then◌else◌}
 use Rattle.xb_base.specs.Causes.{Files, file_named}
 use Rattle.xb_base.specs.Prefixes.{Prefix, Sections}
 use Rattle.xb_base.specs.Texts.{line, prefix_text, hex_text}
@@ -12,9 +12,17 @@ use Rattle.std.specs.List.{concat}
 use Rattle.xbgp_top.specs.declared.status.File.{File}
 use Rattle.xbgp_top.specs.declared.status.File.TheVariants.{Input}
 use Rattle.xbgp_top.specs.declared.status.Status.{Status}
-use Rattle.xbgp_top.specs.declared.status.Status.TheVariants.{Done, Usage, ReadFault, TooLong, BadStream}
+use Rattle.xbgp_top.specs.declared.status.Status.TheVariants.{Done, Usage, ReadFault, TooLong, BadStream, BadCode}
+use Rattle.bpf_mem.specs.Memory.{fresh}
+use Rattle.bpf_insn.specs.declared.fault.LoadFault.{LoadFault}
+use Rattle.bpf_insn.specs.Loading.{load_fault}
+use Rattle.bpf_machine.specs.declared.world.Called.TheVariants as called
+use Rattle.bpf_machine.specs.declared.world.End.{End}
+use Rattle.bpf_machine.specs.declared.world.End.TheVariants as ends
+use Rattle.bpf_machine.specs.Running.{Helps, bpf}
+use Rattle.xbgp_top.specs.Words.{cause_word, load_word}
 use Rattle.xbgp_top.specs.declared.command.Job.{Job}
-use Rattle.xbgp_top.specs.declared.command.Job.TheVariants.{Heard, Judge}
+use Rattle.xbgp_top.specs.declared.command.Job.TheVariants.{Heard, Judge, Exec}
 use Rattle.xbgp_top.specs.Commands.{Command, on_file, command_of}
 
 pub record Answer : Type 0 where
@@ -96,10 +104,39 @@ judge_answer octets =
       | Some at ↦ bad_stream at
     ]
 
+-- no helper may be called
+abbrev pub no_helper : ℕ → Bool
+no_helper number = false
+
+-- a world that says whether helpers may be called, and in which each call is a misuse
+abbrev pub no_help : Helps Bool
+no_help number args memory world = record { called = called.Misuse; memory = memory; world = world }
+
+-- how bytecode ends that runs alone: without helpers, with an empty window and fuel for 1,000,000 instructions
+abbrev pub alone : List ℕ → End
+alone code = (bpf no_help code (fresh []) 1000000 false).end
+
+abbrev pub end_words : End → List (List ℕ)
+end_words (ends.Exit n) = codes "r0" ∷ decimal n ∷ []
+end_words ends.Next = []
+end_words (ends.Failed cause) = codes "fault" ∷ cause_word cause ∷ []
+
+abbrev pub bad_code : LoadFault → Answer
+bad_code fault = answered (BadCode fault) (fault_line (codes "code" ∷ load_word fault.kind ∷ decimal fault.slot ∷ []))
+
+-- the end of bytecode, or its first fault
+abbrev pub exec_answer : List ℕ → Answer
+exec_answer octets =
+    elim (load_fault no_helper octets) as (λ o. Answer) [
+      | None ↦ answered Done (line (end_words (alone octets)) ++ end_line)
+      | Some fault ↦ bad_code fault
+    ]
+
 -- what is asked about the octets of one file
 abbrev pub job_answer : Job → List ℕ → Answer
 job_answer Heard octets = heard_answer octets
 job_answer Judge octets = judge_answer octets
+job_answer Exec octets = exec_answer octets
 
 unfoldable pub command_answer : Command → Files → Answer
 command_answer (on_file job name) files = with_input Input files name (job_answer job)

@@ -1,7 +1,7 @@
 -- The number with which the process ends.
 use Rattle.std.specs.Prelude.{ℕ}
 use Rattle.xbgp_top.specs.declared.status.Status.{Status}
-use Rattle.xbgp_top.specs.declared.status.Status.TheVariants.{Done, Usage, ReadFault, WriteFault, OutOfMemory, TooLong, BadStream}
+use Rattle.xbgp_top.specs.declared.status.Status.TheVariants.{Done, Usage, ReadFault, WriteFault, OutOfMemory, TooLong, BadStream, BadCode}
 
 abbrev pub code_of : Status → ℕ
 code_of Done = 0
@@ -11,3 +11,4 @@ code_of WriteFault = 4
 code_of OutOfMemory = 8
 code_of (TooLong file) = 9
 code_of (BadStream at) = 10
+code_of (BadCode fault) = 11

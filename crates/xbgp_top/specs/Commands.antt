@@ -3,7 +3,7 @@ use Rattle.std.specs.Prelude.{ℕ, List, [], ◌∷◌, Option, Some, None, code
 use Rattle.std.specs.Option.{option_map}
 use Rattle.std.specs.Str.{bytes_eq}
 use Rattle.xbgp_top.specs.declared.command.Job.{Job}
-use Rattle.xbgp_top.specs.declared.command.Job.TheVariants.{Heard, Judge}
+use Rattle.xbgp_top.specs.declared.command.Job.TheVariants.{Heard, Judge, Exec}
 
 pub data Command : Type 0 where
   on_file : Job → List ℕ → Command
@@ -13,6 +13,7 @@ abbrev pub job_of : List ℕ → Option Job
 job_of word =
     if bytes_eq word (codes "heard") then Some Heard
     else if bytes_eq word (codes "judge") then Some Judge
+    else if bytes_eq word (codes "exec") then Some Exec
     else None
 
 abbrev pub command_of : List (List ℕ) → Option Command

@@ -8,6 +8,7 @@ ghost use Rattle.xbgp_top.specs.Shown.{shown};
 pub(crate) enum Job {
     Heard,
     Judge,
+    Exec,
 }
 
 /// What the words of the command line ask for.
@@ -23,6 +24,8 @@ fn job_in(word: &str) -> Option<Job>
         Some(Job::Heard)
     } else if word == "judge" {
         Some(Job::Judge)
+    } else if word == "exec" {
+        Some(Job::Exec)
     } else {
         None
     }

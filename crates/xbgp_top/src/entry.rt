@@ -6,6 +6,7 @@ ghost use Rattle.xbgp_top.specs.Outputs.{Stopped, Writes};
 ghost use Rattle.xbgp_top.specs.Top.{Explains, IsAnswered, IsUsage, SaysMissing, told_answer};
 
 use crate::command::{Command, Job, command_in};
+use crate::exec::print_ended;
 use crate::hear::print_heard;
 use crate::input::{Unread, read_input};
 use crate::judge::print_judged;
@@ -21,6 +22,7 @@ fn print_job<K: Sink>(alloc: Global, job: Job, octets: &[u8], sink: &mut K) -> S
     match job {
         Job::Heard => print_heard(alloc, octets, sink),
         Job::Judge => print_judged(alloc, octets, sink),
+        Job::Exec => print_ended(alloc, octets, sink),
     }
 }
 

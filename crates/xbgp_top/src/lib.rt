@@ -6,11 +6,13 @@
 
 mod command;
 mod entry;
+mod exec;
 mod hear;
 mod input;
 mod judge;
 mod output;
 mod status;
+mod word;
 
 pub use entry::run;
 pub use status::{File, Status};

@@ -1,6 +1,8 @@
 ghost use Rattle.std.specs.Prelude.{◌≡◌};
 ghost use Rattle.xbgp_top.specs.Codes.{code_of};
 
+use bpf_insn::LoadFault;
+
 /// An input that has a limit.
 #[derive(Clone, Copy, Debug, PartialEq, Eq)]
 pub enum File {
@@ -16,6 +18,7 @@ pub enum File {
 /// - `OutOfMemory`: there was no memory; a front of the text may have been written.
 /// - `TooLong`: an input has more octets than its limit.
 /// - `BadStream`: the stream is refused at that offset.
+/// - `BadCode`: the bytecode is refused by the loader.
 #[derive(Clone, Copy, Debug, PartialEq, Eq)]
 pub enum Status {
     Done,
@@ -25,6 +28,7 @@ pub enum Status {
     OutOfMemory,
     TooLong(File),
     BadStream(u64),
+    BadCode(LoadFault),
 }
 
 impl Status {
@@ -40,6 +44,7 @@ impl Status {
             Status::OutOfMemory => 8,
             Status::TooLong(_) => 9,
             Status::BadStream(_) => 10,
+            Status::BadCode(_) => 11,
         }
     }
 }
