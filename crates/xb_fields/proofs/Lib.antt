@@ -1,3 +1,6 @@
 pub mod Values
 pub mod Documents
 pub mod Steps
+pub mod Texts
+pub mod Handed
+pub mod Accepted

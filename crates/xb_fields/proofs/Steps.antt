@@ -13,7 +13,7 @@ pub bind_ok : {A B : Type 0} (m : Judged A) (f : A → Judged B) (y : B) → (m 
 bind_ok (Ok x) f y e = (x, refl, e)
 bind_ok (Err bad) f y e = absurd (cc e)
 
-same_ok : {A : Type 0} (x y : A) → (let r : Judged A = Ok x in r) ≡ Ok y → x ≡ y
+pub same_ok : {A : Type 0} (x y : A) → (let r : Judged A = Ok x in r) ≡ Ok y → x ≡ y
 same_ok x y e = cc e
 
 -- what accepted entries keep: a fact of the list that each step keeps

@@ -1,0 +1,74 @@
+-- What a value says of the step that gave it.
+use Rattle.std.proofs.Common.{◌≡◌, ℕ, ◌≤◌, ℤ, pos, negsuc, Bool, true, false, List, [], length, Option, Some, None, Ok, nat_le, ◌⊎◌, inl, inr, refl, ap, sym, arith}
+use Rattle.std.proofs.lemmas.Bool.{cases_Bool, leb-true}
+use Rattle.toml.specs.Data.{Data, Members, get_member, as_integer, as_array}
+use Rattle.xb_base.specs.declared.bad.BadKind.{BadKind}
+use Rattle.xb_base.specs.declared.bad.BadKind.TheVariants.{Shape, Missing, Range, Count}
+use Rattle.xb_fields.specs.declared.fault.Place.{Place}
+use Rattle.xb_fields.specs.Fields.{Judged, ◌>>=◌, found, must, is_between, number_between, number, string_in, text, data_of, list_of, required, optional}
+use Rattle.xb_fields.proofs.Steps.{bind_ok}
+
+pub found_ok : {A : Type 0} (at : Place) (kind : BadKind) (o : Option A) (x : A) → found at kind o ≡ Ok x → o ≡ Some x
+found_ok at kind None x e = absurd (cc e)
+found_ok at kind (Some y) x e = let same : y ≡ x = cc e in ap Some same
+
+must_cases : (at : Place) (kind : BadKind) (test : Bool) (u : Unit {0}) → must at kind test ≡ Ok u → test ≡ true
+must_cases at kind true u e = refl
+must_cases at kind false u e = absurd (cc e)
+
+-- a test that must be passed, and what comes behind it
+pub must_ok : {B : Type 0} (at : Place) (kind : BadKind) (test : Bool) (f : Unit {0} → Judged B) (y : B) → (must at kind test >>= f) ≡ Ok y → (test ≡ true) × (f tt ≡ Ok y)
+must_ok at kind test f y e = let b = bind_ok (must at kind test) f y e in (must_cases at kind test b.0 b.1, b.2)
+
+between_some : (least most : ℕ) (z : ℤ) (n : ℕ) → number_between least most z ≡ Some n → is_between least most n ≡ true
+between_some least most (pos m) n e =
+    elim (cases_Bool (is_between least most m)) [
+      | inl within ↦ let same : Some m ≡ Some n = rw within at e in let same_number : m ≡ n = cc same in rw (← same_number) within
+      | inr other ↦ let none : None ≡ Some n = rw other at e in absurd (cc none)
+    ]
+between_some least most (negsuc m) n e = absurd (cc e)
+
+-- a number is in its range
+pub number_ok : (at : Place) (least most : ℕ) (d : Data) (n : ℕ) → number at least most d ≡ Ok n → is_between least most n ≡ true
+unfolding number
+number_ok at least most d n e =
+    let b = bind_ok (found at Shape (as_integer d)) (λ z. found at Range (number_between least most z)) n e in
+    between_some least most b.0 n (found_ok at Range (number_between least most b.0) n b.2)
+
+-- a text is read
+pub text_ok : {A : Type 0} (at : Place) (read : List ℕ → Option A) (d : Data) (x : A) → text at read d ≡ Ok x → (s : List ℕ) × (read s ≡ Some x)
+text_ok at read d x e =
+    let b = bind_ok (string_in at d) (λ s. found at Range (read s)) x e in
+    (b.0, found_ok at Range (read b.0) x b.2)
+
+-- a list has no more values than it may
+pub list_ok : (at : Place) (most : ℕ) (d : Data) (ds : List Data) → list_of at most d ≡ Ok ds → length ds ≤ most
+unfolding list_of
+list_ok at most d ds e =
+    let b = bind_ok (found at Shape (as_array d)) (λ items. must at Count (nat_le (length (data_of items)) most) >>= (λ u. Ok (data_of items))) ds e in
+    let m = must_ok at Count (nat_le (length (data_of b.0)) most) (λ u. Ok (data_of b.0)) ds b.2 in
+    let same : data_of b.0 ≡ ds = cc m.1 in
+    rw (← same) (leb-true _ _ m.0)
+
+-- a key that must be there gives what its value gives
+pub required_ok : {A : Type 0} (at : Place) (key : List ℕ) (read : Data → Judged A) (ms : Members) (x : A) → required at key read ms ≡ Ok x → (d : Data) × (read d ≡ Ok x)
+unfolding required
+required_ok at key read ms x e = let b = bind_ok (found at Missing (get_member key ms)) read x e in (b.0, b.2)
+
+optional_cases : {A : Type 0} (default : A) (read : Data → Judged A) (o : Option Data) (x : A)
+    → elim o as (λ _. Judged A) [ None ↦ Ok default | Some d ↦ read d ] ≡ Ok x → (x ≡ default) ⊎ ((d : Data) × (read d ≡ Ok x))
+optional_cases default read None x e = let same : default ≡ x = cc e in inl (sym same)
+optional_cases default read (Some d) x e = inr (d, e)
+
+-- a key that may be absent gives its default, or what its value gives
+pub optional_ok : {A : Type 0} (key : List ℕ) (default : A) (read : Data → Judged A) (ms : Members) (x : A) → optional key default read ms ≡ Ok x → (x ≡ default) ⊎ ((d : Data) × (read d ≡ Ok x))
+unfolding optional
+optional_ok key default read ms x e = optional_cases default read (get_member key ms) x e
+
+-- a list at a key that may be absent
+pub optional_list_ok : (at : Place) (key : List ℕ) (most : ℕ) (ms : Members) (ds : List Data) → optional key [] (list_of at most) ms ≡ Ok ds → length ds ≤ most
+optional_list_ok at key most ms ds e =
+    elim (optional_ok key [] (list_of at most) ms ds e) [
+      | inl none ↦ rw none (omega arith)
+      | inr (d, read) ↦ list_ok at most d ds read
+    ]

@@ -1,0 +1,88 @@
+-- Addresses and prefixes that texts say are in their ranges.
+use Rattle.std.proofs.Common.{◌≡◌, ℕ, ◌<◌, ◌≤◌, ◌^◌, Bool, true, false, ◌&&◌, List, [], ◌∷◌, length, Option, Some, None, nat_le, refl, arith, inl, inr, if◌then◌else◌}
+use Rattle.std.specs.Prelude.{◌==◌}
+use Rattle.std.specs.Option.{option_map}
+use Rattle.std.proofs.lemmas.Bool.{cases_Bool, and_parts, leb-true, eqb-true}
+use Rattle.xb_words.specs.Octets.{four_at}
+use Rattle.xb_words.specs.Optional.{◌>>=◌}
+use Rattle.xb_base.specs.Prefixes.{Prefix, IsPrefix, prefix_of}
+use Rattle.xb_base.proofs.PrefixLemmas.{prefix_is_one}
+use Rattle.xb_base.specs.Readers.{parts, is_decimal, digits_value, number_up_to, octet_texts, read_dotted, prefix_in, read_prefix}
+use Rattle.xbgp_config.specs.Configs.{passing}
+
+-- a chain with a value has a value at its first step
+some_of : {A B : Type 0} (o : Option A) (f : A → Option B) (y : B) → (o >>= f) ≡ Some y → (x : A) × (o ≡ Some x) × (f x ≡ Some y)
+some_of None f y e = absurd (cc e)
+some_of (Some x) f y e = (x, refl, e)
+
+guarded : {A : Type 0} (test : Bool) (x y : A) → (if test then Some x else None) ≡ Some y → (test ≡ true) × (x ≡ y)
+guarded true x y e = (refl, cc e)
+guarded false x y e = absurd (cc e)
+
+number_small : (limit : ℕ) (text : List ℕ) (n : ℕ) → number_up_to limit text ≡ Some n → n ≤ limit
+number_small limit text n e =
+    let g = guarded (is_decimal text && nat_le (digits_value text) limit) (digits_value text) n e in
+    rw (← g.1) (leb-true _ _ (and_parts (is_decimal text) (nat_le (digits_value text) limit) g.0).1)
+
+four_small : (a b c d : ℕ) → a ≤ 255 → b ≤ 255 → c ≤ 255 → d ≤ 255 → four_at (a ∷ b ∷ c ∷ d ∷ []) 0 < 2 ^ 32
+four_small a b c d ha hb hc hd = omega arith
+
+mapped_some : {A B : Type 0} (f : A → B) (o : Option A) (y : B) → option_map f o ≡ Some y → (x : A) × (o ≡ Some x) × (f x ≡ y)
+mapped_some f None y e = absurd (cc e)
+mapped_some f (Some x) y e = (x, refl, cc e)
+
+-- the first of the numbers, and the others
+record Split (texts : List (List ℕ)) (ns : List ℕ) : Type 0 where
+  pub first : ℕ
+  pub others : List ℕ
+  pub small : first ≤ 255
+  pub read : octet_texts texts ≡ Some others
+  pub whole : first ∷ others ≡ ns
+
+split_octets : (text : List ℕ) (texts : List (List ℕ)) (ns : List ℕ) → octet_texts (text ∷ texts) ≡ Some ns → Split texts ns
+split_octets text texts ns e =
+    let a = some_of (number_up_to 255 text) (λ m. octet_texts texts >>= (λ ms. Some (m ∷ ms))) ns e in
+    let b = some_of (octet_texts texts) (λ ms. Some (a.0 ∷ ms)) ns a.2 in
+    record { first = a.0; others = b.0; small = number_small 255 text a.0 a.1; read = b.1; whole = cc b.2 }
+
+texts_small : (texts : List (List ℕ)) (a : ℕ) → length texts ≡ 4 → option_map (λ ns. four_at ns 0) (octet_texts texts) ≡ Some a → a < 2 ^ 32
+texts_small [] a h e = absurd (omega arith)
+texts_small (p ∷ []) a h e = absurd (omega arith)
+texts_small (p ∷ q ∷ []) a h e = absurd (omega arith)
+texts_small (p ∷ q ∷ r ∷ []) a h e = absurd (omega arith)
+texts_small (p ∷ q ∷ r ∷ s ∷ []) a h e =
+    let m = mapped_some (λ ns. four_at ns 0) (octet_texts (p ∷ q ∷ r ∷ s ∷ [])) a e in
+    let i = split_octets p (q ∷ r ∷ s ∷ []) m.0 m.1 in
+    let j = split_octets q (r ∷ s ∷ []) i.others i.read in
+    let k = split_octets r (s ∷ []) j.others j.read in
+    let l = split_octets s [] k.others k.read in
+    let none : [] ≡ l.others = cc l.read in
+    let all : m.0 ≡ i.first ∷ j.first ∷ k.first ∷ l.first ∷ [] = cc (i.whole, j.whole, k.whole, l.whole, none) in
+    rw (← m.2, all) (four_small i.first j.first k.first l.first i.small j.small k.small l.small)
+texts_small (p ∷ q ∷ r ∷ s ∷ t ∷ texts) a h e = absurd (omega arith)
+
+pub address_small : (s : List ℕ) (a : ℕ) → read_dotted s ≡ Some a → a < 2 ^ 32
+address_small s a e =
+    elim (cases_Bool (length (parts 46 s) == 4)) [
+      | inl four ↦ texts_small (parts 46 s) a (eqb-true _ _ four) (rw four at e)
+      | inr other ↦ let none : None ≡ Some a = rw other at e in absurd (cc none)
+    ]
+
+prefix_small : (texts : List (List ℕ)) (p : Prefix) → prefix_in texts ≡ Some p → IsPrefix p
+prefix_small [] p e = absurd (cc e)
+prefix_small (a ∷ []) p e = absurd (cc e)
+prefix_small (a ∷ l ∷ []) p e =
+    let x = some_of (read_dotted a) (λ m. number_up_to 32 l >>= (λ n. Some (prefix_of m n))) p e in
+    let y = some_of (number_up_to 32 l) (λ n. Some (prefix_of x.0 n)) p x.2 in
+    let same : prefix_of x.0 y.0 ≡ p = cc y.2 in
+    rw (← same) (prefix_is_one x.0 y.0 (address_small a x.0 x.1) (number_small 32 l y.0 y.1))
+prefix_small (a ∷ l ∷ t ∷ texts) p e = absurd (cc e)
+
+-- a text of a prefix says one
+pub prefix_good : (s : List ℕ) (p : Prefix) → read_prefix s ≡ Some p → IsPrefix p
+prefix_good s p e = prefix_small (parts 47 s) p e
+
+-- what passes a test
+pub passing_ok : (test : ℕ → Bool) (o : Option ℕ) (a : ℕ) → passing test o ≡ Some a → test a ≡ true
+passing_ok test None a e = absurd (cc e)
+passing_ok test (Some x) a e = let g = guarded (test x) x a e in rw (← g.1) g.0

@@ -1,0 +1,260 @@
+-- Every accepted configuration keeps its ranges, limits and differences.
+use Rattle.std.proofs.Common.{◌≡◌, ◌≢◌, ℕ, ◌<◌, ◌≤◌, Bool, true, false, not, ◌||◌, List, [], ◌∷◌, ◌++◌, length, get_or, zero, suc, Ok, Err, refl, ap, sym, ◌∙◌, arith, inl, inr}
+use Rattle.std.specs.Prelude.{◌==◌, IsTrue, codes, nat_le}
+use Rattle.std.specs.Result.{result_map_both}
+use Rattle.std.specs.List.{list_any, All, AllPairs}
+use Rattle.std.proofs.lemmas.Bool.{and_parts, or_parts, leb-true, eq-eqb, eqb-false, false≢true}
+use Rattle.std.proofs.lemmas.List.Elements.{All-push}
+use Rattle.std.proofs.lemmas.List.Quantifiers.{all_pairs_push}
+use Rattle.toml.specs.Data.{Data, Members}
+use Rattle.xb_base.specs.declared.bad.BadKind.TheVariants.{Range, Double, Key}
+use Rattle.xb_base.specs.declared.bad.Part.TheVariants.{Top, Speaker, Network, Peer, Cost}
+use Rattle.xb_base.specs.Prefixes.{Prefix, IsPrefix}
+use Rattle.xb_base.specs.Readers.{read_dotted, read_prefix}
+use Rattle.xb_fields.specs.declared.fault.Place.{Place}
+use Rattle.xb_fields.specs.Fields.{Judged, ◌>>=◌, document, place, required, optional, number, text, entries, is_between, keys_listed, table_with, list_of}
+use Rattle.xb_fields.proofs.Steps.{bind_ok, same_ok, entries_keep, length-entries}
+use Rattle.xb_fields.proofs.Accepted.{must_ok, number_ok, text_ok, required_ok, optional_ok, optional_list_ok}
+use Rattle.xbgp_config.specs.declared.speaker.SpeakerFields.{SpeakerFields}
+use Rattle.xbgp_config.specs.declared.speaker.SpeakerPart.{SpeakerPart}
+use Rattle.xbgp_config.specs.declared.lists.PeerEntry.{PeerEntry}
+use Rattle.xbgp_config.specs.declared.lists.CostEntry.{CostEntry}
+use Rattle.xbgp_config.specs.Configs.{Config, IsConfig, is_as, is_hold, is_host_address, same_prefix, host_text, id_text, hold_time, speaker_fields, speaker_part, network_entry, peer_fields, peer_entry, cost_fields, cost_entry, speaker_keys, top_keys, fault_of, config_of, config}
+use Rattle.xbgp_config.proofs.Addresses.{prefix_good, passing_ok}
+
+-- no element passes a test that none passes
+none_passes : {A : Type 0} (test : A → Bool) (xs : List A) → list_any test xs ≡ false → (k : ℕ) (d : A) → k < length xs → test (get_or xs k d) ≡ false
+none_passes test [] e k d h = absurd (omega arith)
+none_passes test (x ∷ xs) e zero d h = (or_parts (test x) (list_any test xs) e).0
+none_passes test (x ∷ xs) e (suc k) d h = none_passes test xs (or_parts (test x) (list_any test xs) e).1 k d (omega arith)
+
+untrue : (b : Bool) → not b ≡ true → b ≡ false
+untrue true e = absurd (cc e)
+untrue false e = refl
+
+-- the ranges of the speaker's fields
+record FieldsKept (f : SpeakerFields) : Type 0 where
+  pub speaker : ((f.local).number ≡ 0) × ((f.local).kind ≡ 0)
+  pub asn : IsTrue (is_as (f.local).asn)
+  pub address : IsTrue (is_host_address (f.local).address)
+  pub id : (f.local).id ≢ 0
+  pub hold : IsTrue (is_hold f.hold)
+  pub local_pref : f.local_pref ≤ 4294967295
+
+number_kept : (least most n : ℕ) → is_between least most n ≡ true → n ≤ most
+number_kept least most n e = leb-true _ _ (and_parts (nat_le least n) (nat_le n most) e).1
+
+hold_kept : (d : Data) (n : ℕ) → hold_time d ≡ Ok n → is_hold n ≡ true
+unfolding hold_time
+hold_kept d n e =
+    let b = bind_ok (number (place Speaker 0) 0 65535 d) _ n e in
+    let m = must_ok (place Speaker 0) Range (is_hold b.0) _ n b.2 in
+    rw (← same_ok b.0 n m.1) m.0
+
+number_at : (at : Place) (key : List ℕ) (least most : ℕ) (ms : Members) (n : ℕ) → required at key (number at least most) ms ≡ Ok n → is_between least most n ≡ true
+number_at at key least most ms n e = let r = required_ok at key (number at least most) ms n e in number_ok at least most r.0 n r.1
+
+host_at : (at : Place) (key : List ℕ) (ms : Members) (a : ℕ) → required at key (text at host_text) ms ≡ Ok a → is_host_address a ≡ true
+host_at at key ms a e =
+    let r = required_ok at key (text at host_text) ms a e in
+    let s = text_ok at host_text r.0 a r.1 in
+    passing_ok is_host_address (read_dotted s.0) a s.1
+
+id_at : (at : Place) (key : List ℕ) (ms : Members) (a : ℕ) → required at key (text at id_text) ms ≡ Ok a → a ≢ 0
+id_at at key ms a e =
+    let r = required_ok at key (text at id_text) ms a e in
+    let s = text_ok at id_text r.0 a r.1 in
+    eqb-false a 0 (untrue (a == 0) (passing_ok (λ x. not (x == 0)) (read_dotted s.0) a s.1))
+
+hold_at : (ms : Members) (n : ℕ) → optional (codes "hold") 90 hold_time ms ≡ Ok n → is_hold n ≡ true
+hold_at ms n e =
+    elim (optional_ok (codes "hold") 90 hold_time ms n e) [
+      | inl default ↦ rw default
+      | inr (d, read) ↦ hold_kept d n read
+    ]
+
+pref_at : (ms : Members) (n : ℕ) → optional (codes "local_pref") 100 (number (place Speaker 0) 0 4294967295) ms ≡ Ok n → n ≤ 4294967295
+pref_at ms n e =
+    elim (optional_ok (codes "local_pref") 100 (number (place Speaker 0) 0 4294967295) ms n e) [
+      | inl default ↦ rw default (omega arith)
+      | inr (d, read) ↦ number_kept 0 4294967295 n (number_ok (place Speaker 0) 0 4294967295 d n read)
+    ]
+
+fields_kept : (ms : Members) (f : SpeakerFields) → speaker_fields ms ≡ Ok f → FieldsKept f
+unfolding speaker_fields
+fields_kept ms f e =
+    let at = place Speaker 0 in
+    let a = bind_ok (required at (codes "as") (number at 1 65535) ms) _ f e in
+    let i = bind_ok (required at (codes "id") (text at id_text) ms) _ f a.2 in
+    let h = bind_ok (required at (codes "address") (text at host_text) ms) _ f i.2 in
+    let t = bind_ok (optional (codes "hold") 90 hold_time ms) _ f h.2 in
+    let p = bind_ok (optional (codes "local_pref") 100 (number at 0 4294967295) ms) _ f t.2 in
+    let kept : SpeakerFields = record { local = record { number = 0; asn = a.0; address = h.0; id = i.0; kind = 0 }; hold = t.0; local_pref = p.0 } in
+    rw (← same_ok kept f p.2) (record {
+      speaker = (refl, refl);
+      asn = number_at at (codes "as") 1 65535 ms a.0 a.1;
+      address = host_at at (codes "address") ms h.0 h.1;
+      id = id_at at (codes "id") ms i.0 i.1;
+      hold = hold_at ms t.0 t.1;
+      local_pref = pref_at ms p.0 p.1;
+    })
+
+-- the networks of a speaker
+abbrev NetworksKept : List Prefix → Type 0
+NetworksKept ps = All IsPrefix ps × AllPairs (λ p q. p ≢ q) ps
+
+same_prefix-itself : (p : Prefix) → same_prefix p p ≡ true
+same_prefix-itself p = rw (eq-eqb p.addr p.addr refl, eq-eqb p.len p.len refl)
+
+network_step : (i : ℕ) (earlier : List Prefix) (d : Data) (x : Prefix) → NetworksKept earlier → network_entry i earlier d ≡ Ok x → NetworksKept (earlier ++ x ∷ [])
+network_step i earlier d x kept e =
+    let at = place Network i in
+    let b = bind_ok (text at read_prefix d) _ x e in
+    let m = must_ok at Double (not (list_any (same_prefix b.0) earlier)) _ x b.2 in
+    let same : b.0 ≡ x = same_ok b.0 x m.1 in
+    let read = text_ok at read_prefix d b.0 b.1 in
+    let none : list_any (same_prefix x) earlier ≡ false = rw same at (untrue _ m.0) in
+    let differs = λ (k : ℕ) (y : Prefix) (h : k < length earlier) (is : get_or earlier k y ≡ x).
+    false≢true (sym (none_passes (same_prefix x) earlier none k y h) ∙ ap (same_prefix x) is ∙ same_prefix-itself x) in
+    (All-push IsPrefix earlier x kept.0 (rw same at (prefix_good read.0 b.0 read.1)), all_pairs_push (λ p q. p ≢ q) earlier x kept.1 differs)
+
+networks_kept : (ds : List Data) (ps : List Prefix) → entries network_entry ds ≡ Ok ps → (length ps ≡ length ds) × NetworksKept ps
+unfolding entries
+networks_kept ds ps e = (
+  omega (arith, length-entries network_entry 1 [] ds ps e),
+  entries_keep network_entry NetworksKept network_step 1 [] ds ps (λ k d h. absurd (omega arith), λ i j d h g. absurd (omega arith)) e,
+)
+
+-- the table of a speaker
+record SpeakerKept (s : SpeakerPart) : Type 0 where
+  pub fields : FieldsKept s.fields
+  pub few : length s.networks ≤ 1024
+  pub networks : NetworksKept s.networks
+
+speaker_kept : (d : Data) (s : SpeakerPart) → speaker_part d ≡ Ok s → SpeakerKept s
+unfolding speaker_part
+speaker_kept d s e =
+    let at = place Speaker 0 in
+    let t = bind_ok (table_with at speaker_keys d) _ s e in
+    let f = bind_ok (speaker_fields t.0) _ s t.2 in
+    let l = bind_ok (optional (codes "networks") [] (list_of at 1024) t.0) _ s f.2 in
+    let n = bind_ok (entries network_entry l.0) _ s l.2 in
+    let kept = networks_kept l.0 n.0 n.1 in
+    rw (← same_ok _ s n.2) (record {
+      fields = fields_kept t.0 f.0 f.1;
+      few = omega (arith, kept.0, optional_list_ok at (codes "networks") 1024 t.0 l.0 l.1);
+      networks = kept.1;
+    })
+
+-- the peers of a speaker at an address
+abbrev PeerKept : ℕ → PeerEntry → Type 0
+PeerKept own p = IsTrue (is_as p.asn) × IsTrue (is_host_address p.address) × (p.address ≢ own)
+
+abbrev PeersKept : ℕ → List PeerEntry → Type 0
+PeersKept own ps = All (PeerKept own) ps × AllPairs (λ p q. p.address ≢ q.address) ps
+
+peer_ranges : (i : ℕ) (d : Data) (p : PeerEntry) → peer_fields i d ≡ Ok p → IsTrue (is_as p.asn) × IsTrue (is_host_address p.address)
+unfolding peer_fields
+peer_ranges i d p e =
+    let at = place Peer i in
+    let t = bind_ok (table_with at (codes "as" ∷ codes "address" ∷ []) d) _ p e in
+    let a = bind_ok (required at (codes "as") (number at 1 65535) t.0) _ p t.2 in
+    let h = bind_ok (required at (codes "address") (text at host_text) t.0) _ p a.2 in
+    rw (← same_ok _ p h.2) (number_at at (codes "as") 1 65535 t.0 a.0 a.1, host_at at (codes "address") t.0 h.0 h.1)
+
+peer_step : (own i : ℕ) (earlier : List PeerEntry) (d : Data) (x : PeerEntry) → PeersKept own earlier → peer_entry own i earlier d ≡ Ok x → PeersKept own (earlier ++ x ∷ [])
+peer_step own i earlier d x kept e =
+    let at = place Peer i in
+    let b = bind_ok (peer_fields i d) _ x e in
+    let m = must_ok at Double (not (b.0.address == own || list_any (λ p. b.0.address == p.address) earlier)) _ x b.2 in
+    let same : b.0 ≡ x = same_ok b.0 x m.1 in
+    let both = or_parts (b.0.address == own) (list_any (λ p. b.0.address == p.address) earlier) (untrue _ m.0) in
+    let not_own : (x.address == own) ≡ false = rw same at both.0 in
+    let none : list_any (λ p. x.address == p.address) earlier ≡ false = rw same at both.1 in
+    let ranges = peer_ranges i d x (b.1 ∙ ap Ok same) in
+    let differs = λ (k : ℕ) (y : PeerEntry) (h : k < length earlier) (is : (get_or earlier k y).address ≡ x.address).
+    eqb-false _ _ (none_passes (λ p. x.address == p.address) earlier none k y h) (sym is) in
+    (All-push (PeerKept own) earlier x kept.0 (ranges.0, ranges.1, eqb-false _ _ not_own), all_pairs_push (λ p q. p.address ≢ q.address) earlier x kept.1 differs)
+
+peers_kept : (own : ℕ) (ds : List Data) (ps : List PeerEntry) → entries (peer_entry own) ds ≡ Ok ps → (length ps ≡ length ds) × PeersKept own ps
+unfolding entries
+peers_kept own ds ps e = (
+  omega (arith, length-entries (peer_entry own) 1 [] ds ps e),
+  entries_keep (peer_entry own) (PeersKept own) (peer_step own) 1 [] ds ps (λ k d h. absurd (omega arith), λ i j d h g. absurd (omega arith)) e,
+)
+
+-- the costs of next hops
+abbrev CostsKept : List CostEntry → Type 0
+CostsKept cs = All (λ c. c.cost ≤ 4294967295) cs × AllPairs (λ a b. a.next_hop ≢ b.next_hop) cs
+
+cost_range : (i : ℕ) (d : Data) (x : CostEntry) → cost_fields i d ≡ Ok x → x.cost ≤ 4294967295
+unfolding cost_fields
+cost_range i d x e =
+    let at = place Cost i in
+    let t = bind_ok (table_with at (codes "next_hop" ∷ codes "cost" ∷ []) d) _ x e in
+    let h = bind_ok (required at (codes "next_hop") (text at read_dotted) t.0) _ x t.2 in
+    let n = bind_ok (required at (codes "cost") (number at 0 4294967295) t.0) _ x h.2 in
+    rw (← same_ok _ x n.2) (number_kept 0 4294967295 n.0 (number_at at (codes "cost") 0 4294967295 t.0 n.0 n.1))
+
+cost_step : (i : ℕ) (earlier : List CostEntry) (d : Data) (x : CostEntry) → CostsKept earlier → cost_entry i earlier d ≡ Ok x → CostsKept (earlier ++ x ∷ [])
+cost_step i earlier d x kept e =
+    let at = place Cost i in
+    let b = bind_ok (cost_fields i d) _ x e in
+    let m = must_ok at Double (not (list_any (λ c. b.0.next_hop == c.next_hop) earlier)) _ x b.2 in
+    let same : b.0 ≡ x = same_ok b.0 x m.1 in
+    let none : list_any (λ c. x.next_hop == c.next_hop) earlier ≡ false = rw same at (untrue _ m.0) in
+    let differs = λ (k : ℕ) (y : CostEntry) (h : k < length earlier) (is : (get_or earlier k y).next_hop ≡ x.next_hop).
+    eqb-false _ _ (none_passes (λ c. x.next_hop == c.next_hop) earlier none k y h) (sym is) in
+    (All-push (λ c. c.cost ≤ 4294967295) earlier x kept.0 (cost_range i d x (b.1 ∙ ap Ok same)), all_pairs_push (λ a b. a.next_hop ≢ b.next_hop) earlier x kept.1 differs)
+
+costs_kept : (ds : List Data) (cs : List CostEntry) → entries cost_entry ds ≡ Ok cs → (length cs ≡ length ds) × CostsKept cs
+unfolding entries
+costs_kept ds cs e = (
+  omega (arith, length-entries cost_entry 1 [] ds cs e),
+  entries_keep cost_entry CostsKept cost_step 1 [] ds cs (λ k d h. absurd (omega arith), λ i j d h g. absurd (omega arith)) e,
+)
+
+pub config_kept : (ms : Members) (c : Config) → config_of ms ≡ Ok c → IsConfig c
+unfolding config_of
+config_kept ms c e =
+    let at = place Top 0 in
+    let k = must_ok at Key (keys_listed top_keys ms) _ c e in
+    let s = bind_ok (required at (codes "speaker") speaker_part ms) _ c k.1 in
+    let l = bind_ok (optional (codes "peer") [] (list_of at 64) ms) _ c s.2 in
+    let p = bind_ok (entries (peer_entry ((s.0.fields).local).address) l.0) _ c l.2 in
+    let m = bind_ok (optional (codes "cost") [] (list_of at 1024) ms) _ c p.2 in
+    let n = bind_ok (entries cost_entry m.0) _ c m.2 in
+    let table = required_ok at (codes "speaker") speaker_part ms s.0 s.1 in
+    let speaker = speaker_kept table.0 s.0 table.1 in
+    let peers = peers_kept ((s.0.fields).local).address l.0 p.0 p.1 in
+    let costs = costs_kept m.0 n.0 n.1 in
+    let kept : Config = record { local = (s.0.fields).local; hold = (s.0.fields).hold; local_pref = (s.0.fields).local_pref; networks = s.0.networks; peers = p.0; costs = n.0 } in
+    rw (← same_ok kept c n.2) (record {
+      speaker = speaker.fields.speaker;
+      asn = speaker.fields.asn;
+      address = speaker.fields.address;
+      id = speaker.fields.id;
+      hold = speaker.fields.hold;
+      local_pref = speaker.fields.local_pref;
+      few_networks = speaker.few;
+      networks = speaker.networks.0;
+      networks_differ = speaker.networks.1;
+      few_peers = omega (arith, peers.0, optional_list_ok at (codes "peer") 64 ms l.0 l.1);
+      peers = peers.1.0;
+      peers_differ = peers.1.1;
+      few_costs = omega (arith, costs.0, optional_list_ok at (codes "cost") 1024 ms m.0 m.1);
+      costs = costs.1.0;
+      costs_differ = costs.1.1;
+    })
+
+accepted : (judged : Judged Config) (c : Config) → result_map_both (λ x. x) fault_of judged ≡ Ok c → judged ≡ Ok c
+accepted (Ok x) c e = let same : x ≡ c = cc e in ap Ok same
+accepted (Err bad) c e = absurd (cc e)
+
+-- every configuration that a text gives
+pub config_is_kept : (octets : List ℕ) (c : Config) → config octets ≡ Ok c → IsConfig c
+unfolding config
+config_is_kept octets c e =
+    let m = accepted (document octets >>= config_of) c e in
+    let b = bind_ok (document octets) config_of c m in
+    config_kept b.0 c b.2

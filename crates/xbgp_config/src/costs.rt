@@ -1,0 +1,50 @@
+// The interior costs of next hops.
+ghost use Rattle.std.specs.Prelude.{◌≡◌, ◌≤◌, length, map};
+ghost use Rattle.toml.specs.View.{view};
+ghost use Rattle.xb_fields.specs.Fields.{entries};
+ghost use Rattle.xb_fields.specs.Outcomes.{Gives};
+ghost use Rattle.xbgp_config.specs.Configs.{cost_fields, cost_entry};
+
+use crate::lists::{CostEntry, Costs};
+use crate::texts::required_address;
+use std::alloc::Global;
+use std::collections::BTreeSet;
+use toml::Value;
+use xb_base::{BadKind, Part};
+use xb_fields::{Bad, FieldError, Place, required_number, table_with};
+
+#[tactic(auto, unfolding(crate::specs::Configs::cost_fields))]
+fn cost_fields(index: u32, value: &Value) -> Result<CostEntry, Bad>
+    ensures { result ≡ cost_fields index (view value.now) }
+{
+    let at = Place {
+        part: Part::Cost,
+        index,
+    };
+    let table = table_with(at, &["next_hop", "cost"], value)?;
+    let next_hop = required_address(at, "next_hop", table)?;
+    let cost = required_number(at, "cost", 0, u32::MAX, table)?;
+    Ok(CostEntry { next_hop, cost })
+}
+
+/// Reads the costs, one for each next hop.
+pub fn read_costs(alloc: Global, values: &[Value]) -> Result<Costs, FieldError>
+    requires { length values.now ≤ 1024 }
+    ensures { Gives result (entries cost_entry (map view values.now)) }
+{
+    let mut seen = BTreeSet::new(alloc);
+    let mut items = Vec::new(alloc);
+    for (i, value) in values.iter().enumerate() {
+        let index = i as u32 + 1;
+        let entry = cost_fields(index, value)?;
+        if !seen.insert(entry.next_hop)? {
+            let at = Place {
+                part: Part::Cost,
+                index,
+            };
+            return Err(at.bad(BadKind::Double).into());
+        }
+        items.push(entry)?;
+    }
+    Ok(Costs { items })
+}

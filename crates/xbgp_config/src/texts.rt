@@ -1,0 +1,62 @@
+// Addresses, as keys of tables say them.
+ghost use Rattle.std.specs.Prelude.{◌≡◌};
+ghost use Rattle.toml.specs.View.{table_view};
+ghost use Rattle.xb_base.specs.Readers.{read_dotted};
+ghost use Rattle.xb_fields.specs.Fields.{required, text};
+ghost use Rattle.xbgp_config.specs.Configs.{is_host_address, host_text, id_text};
+
+use toml::Table;
+use xb_base::{BadKind, read_dotted};
+use xb_fields::{Bad, Place, required_text};
+
+fn is_host_address(address: u32) -> bool
+    ensures { result ≡ is_host_address address }
+{
+    let first = address / 0x0100_0000;
+    first != 0 && first != 127 && first < 224
+}
+
+fn host_text(text: &[u8]) -> Option<u32>
+    ensures { result ≡ host_text text.now }
+{
+    let address = read_dotted(text)?;
+    if is_host_address(address) {
+        Some(address)
+    } else {
+        None
+    }
+}
+
+fn id_text(text: &[u8]) -> Option<u32>
+    ensures { result ≡ id_text text.now }
+{
+    let id = read_dotted(text)?;
+    if id != 0 { Some(id) } else { None }
+}
+
+/// Any address.
+#[tactic(auto, using(xb_fields::proofs::Texts::no_text))]
+pub fn required_address(at: Place, key: &str, table: &Table) -> Result<u32, Bad>
+    ensures { result ≡ required at key.now (text at read_dotted) (table_view table.now) }
+{
+    let text = required_text(at, key, table)?;
+    read_dotted(text.as_bytes()).ok_or(at.bad(BadKind::Range))
+}
+
+/// The address of a host.
+#[tactic(auto, using(xb_fields::proofs::Texts::no_text))]
+pub fn required_host(at: Place, key: &str, table: &Table) -> Result<u32, Bad>
+    ensures { result ≡ required at key.now (text at host_text) (table_view table.now) }
+{
+    let text = required_text(at, key, table)?;
+    host_text(text.as_bytes()).ok_or(at.bad(BadKind::Range))
+}
+
+/// A BGP identifier.
+#[tactic(auto, using(xb_fields::proofs::Texts::no_text))]
+pub fn required_id(at: Place, key: &str, table: &Table) -> Result<u32, Bad>
+    ensures { result ≡ required at key.now (text at id_text) (table_view table.now) }
+{
+    let text = required_text(at, key, table)?;
+    id_text(text.as_bytes()).ok_or(at.bad(BadKind::Range))
+}
