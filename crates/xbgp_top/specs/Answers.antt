@@ -11,8 +11,9 @@ use Rattle.xb_words.specs.Cut.{placed}
 use Rattle.std.specs.List.{concat}
 use Rattle.xbgp_top.specs.declared.status.File.{File}
 use Rattle.xbgp_top.specs.declared.status.File.TheVariants.{Input}
+use Rattle.xbgp_top.specs.declared.status.File.TheVariants as inputs
 use Rattle.xbgp_top.specs.declared.status.Status.{Status}
-use Rattle.xbgp_top.specs.declared.status.Status.TheVariants.{Done, Usage, ReadFault, TooLong, BadStream, BadCode}
+use Rattle.xbgp_top.specs.declared.status.Status.TheVariants.{Done, Usage, ReadFault, TooLong, BadConfig, BadStream, BadCode}
 use Rattle.bpf_mem.specs.Memory.{fresh}
 use Rattle.bpf_insn.specs.declared.fault.LoadFault.{LoadFault}
 use Rattle.bpf_insn.specs.Loading.{load_fault}
@@ -20,10 +21,12 @@ use Rattle.bpf_machine.specs.declared.world.Called.TheVariants as called
 use Rattle.bpf_machine.specs.declared.world.End.{End}
 use Rattle.bpf_machine.specs.declared.world.End.TheVariants as ends
 use Rattle.bpf_machine.specs.Running.{Helps, bpf}
-use Rattle.xbgp_top.specs.Words.{cause_word, load_word}
+use Rattle.xbgp_top.specs.Words.{cause_word, kind_word, load_word, part_word}
+use Rattle.xbgp_config.specs.declared.fault.ConfigFault.{ConfigFault}
+use Rattle.xbgp_config.specs.Configs.{Config, config}
 use Rattle.xbgp_top.specs.declared.command.Job.{Job}
 use Rattle.xbgp_top.specs.declared.command.Job.TheVariants.{Heard, Judge, Exec}
-use Rattle.xbgp_top.specs.Commands.{Command, on_file, command_of}
+use Rattle.xbgp_top.specs.Commands.{Command, on_file, check, command_of}
 
 pub record Answer : Type 0 where
   pub status : Status
@@ -48,6 +51,7 @@ input_limit = 1048576
 
 abbrev pub file_word : File → List ℕ
 file_word Input = codes "input"
+file_word inputs.Config = codes "config"
 
 abbrev pub long_answer : File → Answer
 long_answer file = answered (TooLong file) (fault_line (codes "long" ∷ file_word file ∷ []))
@@ -138,8 +142,26 @@ job_answer Heard octets = heard_answer octets
 job_answer Judge octets = judge_answer octets
 job_answer Exec octets = exec_answer octets
 
+-- a count under its word
+abbrev pub count_line : List ℕ → ℕ → List ℕ
+count_line word n = line (word ∷ decimal n ∷ [])
+
+-- how many peers and networks there are; without a manifest there is no map and no program
+abbrev pub counts : Config → Answer
+counts config =
+    answered Done (count_line (codes "peers") (length config.peers) ++ count_line (codes "networks") (length config.networks)
+    ++ count_line (codes "maps") 0 ++ count_line (codes "programs") 0 ++ end_line)
+
+abbrev pub bad_config : ConfigFault → Answer
+bad_config fault = answered (BadConfig fault) (fault_line (codes "config" ∷ kind_word fault.kind ∷ part_word fault.part ∷ decimal fault.index ∷ []))
+
+-- the counts of a configuration, or its first fault
+abbrev pub check_answer : List ℕ → Answer
+check_answer text = elim (config text) [ Ok c ↦ counts c | Err fault ↦ bad_config fault ]
+
 unfoldable pub command_answer : Command → Files → Answer
 command_answer (on_file job name) files = with_input Input files name (job_answer job)
+command_answer (check name) files = with_input inputs.Config files name check_answer
 
 -- words that are no command are bad usage
 unfoldable pub answer : List (List ℕ) → Files → Answer

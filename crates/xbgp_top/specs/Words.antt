@@ -1,22 +1,61 @@
 -- The words in which faults are printed (this project's own).
 use Rattle.std.specs.Prelude.{ℕ, List, codes}
+use Rattle.xb_base.specs.declared.bad.BadKind.{BadKind}
+use Rattle.xb_base.specs.declared.bad.BadKind.TheVariants as kinds
+use Rattle.xb_base.specs.declared.bad.Part.{Part}
+use Rattle.xb_base.specs.declared.bad.Part.TheVariants as parts
 use Rattle.bpf_insn.specs.declared.fault.LoadKind.{LoadKind}
-use Rattle.bpf_insn.specs.declared.fault.LoadKind.TheVariants as kinds
+use Rattle.bpf_insn.specs.declared.fault.LoadKind.TheVariants as loads
 use Rattle.bpf_machine.specs.declared.world.Cause.{Cause}
 use Rattle.bpf_machine.specs.declared.world.Cause.TheVariants as causes
 
+-- what is wrong with a configuration or a manifest
+abbrev pub kind_word : BadKind → List ℕ
+kind_word kinds.Text = codes "text"
+kind_word kinds.Shape = codes "type"
+kind_word kinds.Key = codes "key"
+kind_word kinds.Missing = codes "missing"
+kind_word kinds.Range = codes "range"
+kind_word kinds.Count = codes "count"
+kind_word kinds.Double = codes "double"
+kind_word kinds.Room = codes "room"
+kind_word kinds.Length = codes "length"
+kind_word kinds.TooLong = codes "toolong"
+kind_word kinds.Opcode = codes "opcode"
+kind_word kinds.Register = codes "register"
+kind_word kinds.Reserved = codes "reserved"
+kind_word kinds.WidePair = codes "widepair"
+kind_word kinds.Jump = codes "jump"
+kind_word kinds.WriteR10 = codes "writer10"
+kind_word kinds.Helper = codes "helper"
+kind_word kinds.OpenEnd = codes "openend"
+
+-- the part in which it stands
+abbrev pub part_word : Part → List ℕ
+part_word parts.Top = codes "top"
+part_word parts.Speaker = codes "speaker"
+part_word parts.Network = codes "network"
+part_word parts.Peer = codes "peer"
+part_word parts.Cost = codes "cost"
+part_word parts.Map = codes "map"
+part_word parts.Program = codes "program"
+
+-- a fault of bytecode as a fault of what it stands in
+abbrev pub kind_of : LoadKind → BadKind
+kind_of loads.Length = kinds.Length
+kind_of loads.TooLong = kinds.TooLong
+kind_of loads.Opcode = kinds.Opcode
+kind_of loads.Register = kinds.Register
+kind_of loads.Reserved = kinds.Reserved
+kind_of loads.WidePair = kinds.WidePair
+kind_of loads.Jump = kinds.Jump
+kind_of loads.WriteR10 = kinds.WriteR10
+kind_of (loads.Helper number) = kinds.Helper
+kind_of loads.OpenEnd = kinds.OpenEnd
+
 -- why bytecode is refused
 abbrev pub load_word : LoadKind → List ℕ
-load_word kinds.Length = codes "length"
-load_word kinds.TooLong = codes "toolong"
-load_word kinds.Opcode = codes "opcode"
-load_word kinds.Register = codes "register"
-load_word kinds.Reserved = codes "reserved"
-load_word kinds.WidePair = codes "widepair"
-load_word kinds.Jump = codes "jump"
-load_word kinds.WriteR10 = codes "writer10"
-load_word (kinds.Helper number) = codes "helper"
-load_word kinds.OpenEnd = codes "openend"
+load_word kind = kind_word (kind_of kind)
 
 -- why a program failed
 abbrev pub cause_word : Cause → List ℕ

@@ -1,10 +1,11 @@
 ghost use Rattle.std.specs.Prelude.{◌≡◌, ◌≢◌, ◌≤◌, ◌⊎◌, Some, map, string_bytes};
 ghost use Rattle.xb_base.specs.Causes.{Files, Rose, TookFront};
 ghost use Rattle.xbgp_top.specs.Answers.{answer, job_answer, long_answer};
-ghost use Rattle.xbgp_top.specs.Commands.{command_of, on_file};
+ghost use Rattle.xbgp_top.specs.Commands.{check, command_of, on_file};
 ghost use Rattle.xbgp_top.specs.Outputs.{Stopped, Writes};
 ghost use Rattle.xbgp_top.specs.Top.{Explains, IsAnswered, IsUsage, SaysMissing, told_answer};
 
+use crate::check::print_checked;
 use crate::command::{Command, Job, command_in};
 use crate::exec::print_ended;
 use crate::hear::print_heard;
@@ -32,6 +33,7 @@ fn long_line(file: File) -> &'static [u8]
 {
     match file {
         File::Input => b"fault long input\n",
+        File::Config => b"fault long config\n",
     }
 }
 
@@ -63,6 +65,22 @@ fn ask_file<S: Shelf, K: Sink>(
     }
 }
 
+// Reads a configuration and counts what it has.
+fn check_config<S: Shelf, K: Sink>(
+    alloc: Global,
+    name: &str,
+    shelf: &mut S,
+    sink: &mut K,
+) -> Status
+    ensures explains { Explains (told_answer (Some (check name.now)) (S.held shelf.old)) (S.faults shelf.old) (S.faults shelf.new) (K.faults sink.old) (K.faults sink.new) (K.took sink.old) (K.took sink.new) result }
+    ensures command { result ≢ Status.Usage }
+{
+    match read_input(alloc, shelf, name) {
+        Ok(text) => print_checked(alloc, &text, sink),
+        Err(why) => not_read(File::Config, why, sink),
+    }
+}
+
 // Does what the words say.
 fn obey<S: Shelf, K: Sink>(alloc: Global, words: &[String], shelf: &mut S, sink: &mut K) -> Status
     ensures explains { Explains (told_answer (command_of (map string_bytes words.now)) (S.held shelf.old)) (S.faults shelf.old) (S.faults shelf.new) (K.faults sink.old) (K.faults sink.new) (K.took sink.old) (K.took sink.new) result }
@@ -71,6 +89,7 @@ fn obey<S: Shelf, K: Sink>(alloc: Global, words: &[String], shelf: &mut S, sink:
     match command_in(words) {
         None => say(sink, b"fault usage\n", Status::Usage),
         Some(Command::File(job, name)) => ask_file(alloc, job, name, shelf, sink),
+        Some(Command::Check(name)) => check_config(alloc, name, shelf, sink),
     }
 }
 

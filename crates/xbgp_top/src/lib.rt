@@ -4,6 +4,7 @@
 //! held: a status and a text. `run` gives that answer over any shelf and any sink, and each other answer only with its cause.
 #![tactic(auto)]
 
+mod check;
 mod command;
 mod entry;
 mod exec;

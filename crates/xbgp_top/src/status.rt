@@ -2,11 +2,13 @@ ghost use Rattle.std.specs.Prelude.{◌≡◌};
 ghost use Rattle.xbgp_top.specs.Codes.{code_of};
 
 use bpf_insn::LoadFault;
+use xbgp_config::ConfigFault;
 
 /// An input that has a limit.
 #[derive(Clone, Copy, Debug, PartialEq, Eq)]
 pub enum File {
     Input,
+    Config,
 }
 
 /// How a run ended.
@@ -15,6 +17,7 @@ pub enum File {
 /// - `Usage`: the words are no command.
 /// - `ReadFault`: an input could not be read.
 /// - `WriteFault`: the text could not be written; a front of it was.
+/// - `BadConfig`: the configuration is refused.
 /// - `OutOfMemory`: there was no memory; a front of the text may have been written.
 /// - `TooLong`: an input has more octets than its limit.
 /// - `BadStream`: the stream is refused at that offset.
@@ -25,6 +28,7 @@ pub enum Status {
     Usage,
     ReadFault,
     WriteFault,
+    BadConfig(ConfigFault),
     OutOfMemory,
     TooLong(File),
     BadStream(u64),
@@ -41,6 +45,7 @@ impl Status {
             Status::Usage => 2,
             Status::ReadFault => 3,
             Status::WriteFault => 4,
+            Status::BadConfig(_) => 5,
             Status::OutOfMemory => 8,
             Status::TooLong(_) => 9,
             Status::BadStream(_) => 10,

@@ -1,26 +1,77 @@
 ghost use Rattle.std.specs.Prelude.{◌≡◌, ◌≤◌, length};
-ghost use Rattle.xbgp_top.specs.Words.{cause_word, load_word};
+ghost use Rattle.xbgp_top.specs.Words.{cause_word, kind_of, kind_word, load_word, part_word};
 
 use bpf_insn::LoadKind;
 use bpf_machine::Cause;
+use xb_base::{BadKind, Part};
+
+/// The word for what is wrong with a configuration or a manifest.
+pub(crate) fn kind_word(kind: BadKind) -> &'static [u8]
+    ensures word { result.now ≡ kind_word kind }
+    ensures short { length result.now ≤ 8 }
+{
+    match kind {
+        BadKind::Text => b"text",
+        BadKind::Shape => b"type",
+        BadKind::Key => b"key",
+        BadKind::Missing => b"missing",
+        BadKind::Range => b"range",
+        BadKind::Count => b"count",
+        BadKind::Double => b"double",
+        BadKind::Room => b"room",
+        BadKind::Length => b"length",
+        BadKind::TooLong => b"toolong",
+        BadKind::Opcode => b"opcode",
+        BadKind::Register => b"register",
+        BadKind::Reserved => b"reserved",
+        BadKind::WidePair => b"widepair",
+        BadKind::Jump => b"jump",
+        BadKind::WriteR10 => b"writer10",
+        BadKind::Helper => b"helper",
+        BadKind::OpenEnd => b"openend",
+    }
+}
+
+/// The word for the part in which a fault stands.
+pub(crate) fn part_word(part: Part) -> &'static [u8]
+    ensures word { result.now ≡ part_word part }
+    ensures short { length result.now ≤ 7 }
+{
+    match part {
+        Part::Top => b"top",
+        Part::Speaker => b"speaker",
+        Part::Network => b"network",
+        Part::Peer => b"peer",
+        Part::Cost => b"cost",
+        Part::Map => b"map",
+        Part::Program => b"program",
+    }
+}
+
+// A fault of bytecode as a fault of what it stands in.
+fn kind_of(kind: LoadKind) -> BadKind
+    ensures { result ≡ kind_of kind }
+{
+    match kind {
+        LoadKind::Length => BadKind::Length,
+        LoadKind::TooLong => BadKind::TooLong,
+        LoadKind::Opcode => BadKind::Opcode,
+        LoadKind::Register => BadKind::Register,
+        LoadKind::Reserved => BadKind::Reserved,
+        LoadKind::WidePair => BadKind::WidePair,
+        LoadKind::Jump => BadKind::Jump,
+        LoadKind::WriteR10 => BadKind::WriteR10,
+        LoadKind::Helper(_) => BadKind::Helper,
+        LoadKind::OpenEnd => BadKind::OpenEnd,
+    }
+}
 
 /// The word for why bytecode is refused.
 pub(crate) fn load_word(kind: LoadKind) -> &'static [u8]
     ensures word { result.now ≡ load_word kind }
     ensures short { length result.now ≤ 8 }
 {
-    match kind {
-        LoadKind::Length => b"length",
-        LoadKind::TooLong => b"toolong",
-        LoadKind::Opcode => b"opcode",
-        LoadKind::Register => b"register",
-        LoadKind::Reserved => b"reserved",
-        LoadKind::WidePair => b"widepair",
-        LoadKind::Jump => b"jump",
-        LoadKind::WriteR10 => b"writer10",
-        LoadKind::Helper(_) => b"helper",
-        LoadKind::OpenEnd => b"openend",
-    }
+    kind_word(kind_of(kind))
 }
 
 /// The word for why a program failed.

@@ -1,4 +1,4 @@
-use Rattle.std.proofs.Common.{◌≡◌, ◌∙◌, None, Some, sym}
+use Rattle.std.proofs.Common.{◌≡◌, ◌∙◌, ap, None, Some, sym, Err}
 use Rattle.bpf_insn.specs.Helpers.{allows}
 use Rattle.bpf_insn.specs.Loading.{load_fault}
 use Rattle.xbgp_top.specs.Answers.{no_helper}
@@ -13,4 +13,4 @@ returns-in-Ok g c =
 pub returns-in-Err-Bad : goal.returns-in-Err-Bad
 returns-in-Err-Bad g c =
     let octets = c.args.octets.now in
-    exec_bad octets c.in-Err-Bad.fault (sym (none_allowed (allows c.none.result) octets c.none.ensures) ∙ c.load.ensures.bad c.in-Err-Bad.fault (refused c.load.result c.in-Err-Bad.field-0 c.in-Err-Bad.fault c.in-Err-Bad.is c.in-Err-Bad.field-0-is)) _ _ _ _ c.refuse_code.result c.refuse_code.ensures
+    exec_bad octets c.in-Err-Bad.fault (sym (none_allowed (allows c.none.result) octets c.none.ensures) ∙ c.in-Err-Bad.ensures.bad c.in-Err-Bad.fault (ap Err c.in-Err-Bad.field-0-is)) _ _ _ _ c.refuse_code.result c.refuse_code.ensures
