@@ -17,6 +17,3 @@ mod word;
 
 pub use entry::run;
 pub use status::{File, Status};
-
-#[cfg(test)]
-mod tests;

@@ -1,7 +1,9 @@
-use crate::{File, Status, run};
+use bpf_insn::{LoadFault, LoadKind};
 use std::alloc::Global;
 use std::test::Fail;
-use xb_base::{MemShelf, MemSink};
+use xb_base::{BadKind, MemShelf, MemSink, Part};
+use xbgp_config::ConfigFault;
+use xbgp_top::{File, Status, run};
 
 // The attributes of a route by AS 65001 with next hop 192.0.2.1.
 const ROUTE: [u8; 18] = [
@@ -135,6 +137,30 @@ fn refusals_are_named(rt: HostRuntime) -> Result<(), Fail> {
             9,
             "fault long input\n",
         ),
+        (
+            ["check", "x", "-"].as_slice(),
+            long.as_slice(),
+            0,
+            Status::TooLong(File::Config),
+            9,
+            "fault long config\n",
+        ),
+        (
+            ["check", "x"].as_slice(),
+            b"".as_slice(),
+            0,
+            Status::Usage,
+            2,
+            "fault usage\n",
+        ),
+        (
+            ["check", "y", "-"].as_slice(),
+            b"".as_slice(),
+            0,
+            Status::ReadFault,
+            3,
+            "",
+        ),
     ] {
         let (got, written) = answer(alloc, words, octets, failing)?;
         assert_eq!(rt; got, status, "for {text}");
@@ -186,6 +212,189 @@ fn messages_are_judged(rt: HostRuntime) -> Result<(), Fail> {
     let (status, written) = answer(alloc, &["judge", "x"], &stream, 0)?;
     assert_eq!(rt; status, Status::BadStream(19));
     assert_eq!(rt; written.as_slice(), b"fault stream 19\n".as_slice());
+    Ok(())
+}
+
+const CONFIG: &str = "[speaker]
+as = 65000
+id = \"192.0.2.254\"
+address = \"192.0.2.254\"
+[[peer]]
+as = 65001
+address = \"192.0.2.1\"
+[[peer]]
+as = 65002
+address = \"192.0.2.2\"
+[[peer]]
+as = 65003
+address = \"192.0.2.3\"
+";
+
+#[test]
+fn configurations_are_counted(rt: HostRuntime) -> Result<(), Fail> {
+    let (status, text) = answer(rt.alloc(), &["check", "x", "-"], CONFIG.as_bytes(), 0)?;
+    assert_eq!(rt; status, Status::Done);
+    assert_eq!(rt;
+        text.as_slice(),
+        b"peers 3\nnetworks 0\nmaps 0\nprograms 0\nend\n".as_slice()
+    );
+    Ok(())
+}
+
+// A configuration with so many peers.
+fn config_of_peers(alloc: Global, count: u32) -> Result<String, Fail> {
+    let mut text = String::from_str(
+        alloc,
+        "[speaker]\nas = 1\nid = \"1.1.1.1\"\naddress = \"1.1.1.1\"\n",
+    )?;
+    for i in 0..count {
+        let peer = format!(in alloc; "[[peer]]\nas = 2\naddress = \"10.0.0.{i}\"\n")?;
+        text.push_str(&peer)?;
+    }
+    Ok(text)
+}
+
+#[test]
+fn configurations_are_refused(rt: HostRuntime) -> Result<(), Fail> {
+    let alloc = rt.alloc();
+    let doubled = CONFIG.replace(alloc, "192.0.2.2\"", "192.0.2.1\"")?;
+    let short_hold = CONFIG.replace(
+        alloc,
+        "[[peer]]\nas = 65001",
+        "hold = 2\n[[peer]]\nas = 65001",
+    )?;
+    let unknown = format!(in alloc; "mtu = 1500\n{CONFIG}")?;
+    let many = config_of_peers(alloc, 65)?;
+    for (text, kind, part, index, line) in [
+        (
+            "",
+            BadKind::Missing,
+            Part::Top,
+            0,
+            "fault config missing top 0\n",
+        ),
+        (
+            doubled.as_str(),
+            BadKind::Double,
+            Part::Peer,
+            2,
+            "fault config double peer 2\n",
+        ),
+        (
+            short_hold.as_str(),
+            BadKind::Range,
+            Part::Speaker,
+            0,
+            "fault config range speaker 0\n",
+        ),
+        (
+            unknown.as_str(),
+            BadKind::Key,
+            Part::Top,
+            0,
+            "fault config key top 0\n",
+        ),
+        (
+            many.as_str(),
+            BadKind::Count,
+            Part::Top,
+            0,
+            "fault config count top 0\n",
+        ),
+    ] {
+        let (status, written) = answer(alloc, &["check", "x", "-"], text.as_bytes(), 0)?;
+        assert_eq!(rt;
+            status,
+            Status::BadConfig(ConfigFault { kind, part, index }),
+            "for {line}"
+        );
+        assert_eq!(rt; status.code(), 5);
+        assert_eq!(rt; written.as_slice(), line.as_bytes());
+    }
+    Ok(())
+}
+
+#[test]
+fn bytecode_runs_alone(rt: HostRuntime) -> Result<(), Fail> {
+    let alloc = rt.alloc();
+    for (code, text) in [
+        // r0 = 7
+        (
+            [0xb7, 0, 0, 0, 7, 0, 0, 0, 0x95, 0, 0, 0, 0, 0, 0, 0].as_slice(),
+            "r0 7\nend\n",
+        ),
+        // r0 = -1; w0 %= 0
+        (
+            [
+                0xb7, 0, 0, 0, 255, 255, 255, 255, 0x94, 0, 0, 0, 0, 0, 0, 0, 0x95, 0, 0, 0, 0, 0,
+                0, 0,
+            ]
+            .as_slice(),
+            "r0 4294967295\nend\n",
+        ),
+        // a jump to itself
+        (
+            [0x05, 0, 255, 255, 0, 0, 0, 0, 0x95, 0, 0, 0, 0, 0, 0, 0].as_slice(),
+            "fault fuel\nend\n",
+        ),
+        // a load from address 0
+        (
+            [0x79, 0, 0, 0, 0, 0, 0, 0, 0x95, 0, 0, 0, 0, 0, 0, 0].as_slice(),
+            "fault memory\nend\n",
+        ),
+        // a load of 64 bits
+        (
+            [
+                0x18, 0, 0, 0, 255, 255, 255, 255, 0, 0, 0, 0, 1, 0, 0, 0, 0x95, 0, 0, 0, 0, 0, 0,
+                0,
+            ]
+            .as_slice(),
+            "r0 8589934591\nend\n",
+        ),
+        // r0 = -8; r0 >>= 1
+        (
+            [
+                0xb7, 0, 0, 0, 0xf8, 255, 255, 255, 0x77, 0, 0, 0, 1, 0, 0, 0, 0x95, 0, 0, 0, 0, 0,
+                0, 0,
+            ]
+            .as_slice(),
+            "r0 9223372036854775804\nend\n",
+        ),
+    ] {
+        let (status, written) = answer(alloc, &["exec", "x"], code, 0)?;
+        assert_eq!(rt; status, Status::Done, "for {text}");
+        assert_eq!(rt; written.as_slice(), text.as_bytes());
+    }
+    Ok(())
+}
+
+#[test]
+fn bytecode_is_refused(rt: HostRuntime) -> Result<(), Fail> {
+    let alloc = rt.alloc();
+    for (code, kind, text) in [
+        // r0 = 7, and no end
+        (
+            [0xb7, 0, 0, 0, 7, 0, 0, 0].as_slice(),
+            LoadKind::OpenEnd,
+            "fault code openend 0\n",
+        ),
+        (b"".as_slice(), LoadKind::Length, "fault code length 0\n"),
+        // r10 = 0
+        (
+            [0xb7, 10, 0, 0, 0, 0, 0, 0, 0x95, 0, 0, 0, 0, 0, 0, 0].as_slice(),
+            LoadKind::WriteR10,
+            "fault code writer10 0\n",
+        ),
+    ] {
+        let (status, written) = answer(alloc, &["exec", "x"], code, 0)?;
+        assert_eq!(rt;
+            status,
+            Status::BadCode(LoadFault { kind, slot: 0 }),
+            "for {text}"
+        );
+        assert_eq!(rt; status.code(), 11);
+        assert_eq!(rt; written.as_slice(), text.as_bytes());
+    }
     Ok(())
 }
 
