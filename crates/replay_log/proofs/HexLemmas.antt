@@ -35,7 +35,7 @@ pair_read front longer (high ∷ low ∷ digits) b two e is =
     rw (take_rest (high ∷ low ∷ digits) 2, is)
     (behind_all front b (read_hex digits) ∙ ap (behind front) (sym (pair_said (hex_value high) (hex_value low) (read_hex digits) b e)))
 
-appended : (done : Bool) (old new : Buffer) (text : List ℕ) → Appends done old new text → length old.octets + length text ≤ old.capacity → new ≡ record old { octets = old.octets ++ text }
+pub appended : (done : Bool) (old new : Buffer) (text : List ℕ) → Appends done old new text → length old.octets + length text ≤ old.capacity → new ≡ record old { octets = old.octets ++ text }
 appended true old new text a fits = a.result
 appended false old new text a fits = let wrong : false ≡ true = a.fits.1 fits in cc wrong
 

@@ -6,8 +6,10 @@
 
 mod hex;
 mod line;
+mod reader;
 
 pub use line::{Line, parse_into, parse_line};
+pub use reader::{Got, LogReader};
 
 #[cfg(test)]
 mod tests;
