@@ -1,0 +1,3 @@
+pub mod Canonical
+pub mod Reading
+pub mod Places

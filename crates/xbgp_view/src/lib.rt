@@ -1,0 +1,6 @@
+//! Routes as programs see and edit them.
+#![tactic(auto)]
+
+mod view;
+
+pub use view::RouteView;
