@@ -10,7 +10,7 @@ use Rattle.xb_words.specs.Octets.{two_at, two_octets}
 use Rattle.xb_words.specs.Cut.{cut, IsStable, IsItem}
 use Rattle.xb_words.proofs.Cutting.{cut-joined}
 use Rattle.bgp_attr.specs.Attributes.{attribute_size, flags_of, code_of, value_of, has_long_length, header_size, whole_size}
-use Rattle.bgp_attr.specs.Routes.{Attribute, Route, canon, canonical, kept_flags, IsEntry}
+use Rattle.bgp_attr.specs.Routes.{Attribute, Route, canon, canonical, kept_flags, IsEntry, IsRoute}
 use Rattle.bgp_attr.proofs.Sizes.{attribute_is_size, passed}
 
 -- a size tells that the whole attribute is there
@@ -51,7 +51,7 @@ short_flag f kept =
 apart : (f : ℕ) → kept_flags f ≡ f → bit_and f 16 ≡ 0
 apart f kept = ap (λ n. bit_and n 16) (sym kept) ∙ and_assoc 16 f 224 ∙ and_zero_r f
 
-with_flag : (f : ℕ) → kept_flags f ≡ f → f + 16 ≡ bit_or f 16
+pub with_flag : (f : ℕ) → kept_flags f ≡ f → f + 16 ≡ bit_or f 16
 with_flag f kept = sym (or_disjoint f 16 (apart f kept))
 
 pub long_flag : (f : ℕ) → kept_flags f ≡ f → has_long_length (f + 16) ≡ true
@@ -135,3 +135,7 @@ pub canon_cut : (r : Route) → AllByRecursion IsSpelled r → cut attribute_siz
 canon_cut r all =
     ap (cut attribute_size) (canon_joined r ∙ sym (append-nil (concat (map canonical r))))
     ∙ cut-joined attribute_size attribute_is_size attribute_is_stable (map canonical r) [] (all_items r all) refl
+
+-- a whole route has spelled entries
+pub route_spelled : (r : Route) → IsRoute r → AllByRecursion IsSpelled r
+route_spelled r is = all_spelled r 4112 is.entries is.short (omega arith)

@@ -1,3 +1,5 @@
 pub mod Canonical
 pub mod Reading
 pub mod Places
+pub mod Finding
+pub mod Edits

@@ -1,0 +1,7 @@
+use xb_base::Buf;
+
+/// x
+#[derive(Drop)]
+pub struct Overlay {
+    section: Buf,
+}
