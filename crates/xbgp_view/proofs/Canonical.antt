@@ -108,7 +108,7 @@ spelled e kept small = elim (cases_Bool (nat_lt 255 (length e.1.value))) [
 pub record AreSpelled (r : Route) : Type 0 where
   pub all : AllByRecursion IsSpelled r
 
-long_value : (e : ℕ × Attribute) → length e.1.value ≤ length (canonical e)
+pub long_value : (e : ℕ × Attribute) → length e.1.value ≤ length (canonical e)
 long_value e = elim (cases_Bool (nat_lt 255 (length e.1.value))) [
   | inl long ↦ rw long (omega arith)
   | inr short ↦ rw short (omega arith)

@@ -1,6 +1,6 @@
 -- What a walk over a canonical section finds.
-use Rattle.std.proofs.Common.{◌≡◌, inl, inr, refl, sym, ap, ◌∙◌, ℕ, ◌+◌, ◌≤◌, true, false, List, [], ◌∷◌, ◌++◌, length, take, drop, map, Option, Some, None, arith, append_assoc, nat_le, nat_lt}
-use Rattle.std.specs.Prelude.{if◌then◌else◌, ◌==◌}
+use Rattle.std.proofs.Common.{◌≡◌, inl, inr, refl, sym, ap, subst, ◌∙◌, ℕ, ◌+◌, ◌≤◌, true, false, List, [], ◌∷◌, ◌++◌, length, take, drop, map, Option, Some, None, arith, append_assoc, nat_le, nat_lt}
+use Rattle.std.specs.Prelude.{IfSome, if◌then◌else◌, ◌==◌}
 use Rattle.std.specs.Option.{option_map}
 use Rattle.std.specs.List.{AllByRecursion}
 use Rattle.std.proofs.lemmas.Bool.{cases_Bool, ltb-true, ltb-false, le-leb, lt-leb}
@@ -8,9 +8,9 @@ use Rattle.std.proofs.lemmas.List.{length-append, drop_at, take_at, append-nil}
 use Rattle.xb_words.specs.Cut.{Pieces, walk, walk_from}
 use Rattle.xb_words.specs.Table.{first}
 use Rattle.bgp_attr.specs.Attributes.{code_of}
-use Rattle.bgp_attr.specs.Routes.{Attribute, Route, route_of, canon, canonical, kept_flags}
+use Rattle.bgp_attr.specs.Routes.{Route, route_of, canon, canonical}
 use Rattle.bgp_attr.specs.Walks.{Found, found, overrun, attributes_from}
-use Rattle.xbgp_view.specs.Sections.{IsCanonical, lower, upper, past, found_from}
+use Rattle.xbgp_view.specs.Sections.{IsGap, at_code, gap_of, IsCanonical, lower, upper, past, found_from}
 use Rattle.xbgp_view.proofs.Canonical.{IsSpelled, canon_cut, route_spelled}
 use Rattle.bgp_attr.specs.Routes.{attribute_at}
 use Rattle.std.proofs.lemmas.Bool.Decides.{eqb_tells}
@@ -28,7 +28,7 @@ found_in from at (e ∷ r) all = elim (cases_Bool (nat_lt e.0 from)) [
   | inl below ↦
       let no : nat_le from e.0 ≡ false = lt-leb from e.0 (ltb-true e.0 from below) in
       rw (all.0.code, no, below) (found_in from (at + length (canonical e)) r all.1
-        ∙ ap (λ n. head_found n (upper from r)) (omega (arith, length-append (canonical e) (canon (lower from r)))))
+      ∙ ap (λ n. head_found n (upper from r)) (omega (arith, length-append (canonical e) (canon (lower from r)))))
   | inr here ↦
       let yes : nat_le from (code_of (canonical e)) ≡ true = ap (nat_le from) all.0.code ∙ le-leb from e.0 (ltb-false e.0 from here) in
       rw (yes, here) (ap (λ n. Some (found n (canonical e))) (omega arith))
@@ -46,16 +46,11 @@ found_is from s is =
     ∙ found_in from 0 r all
     ∙ ap (λ n. head_found n (upper from r)) (omega arith)
 
--- what the walk finds at one code
-abbrev pub at_code : ℕ → Option Found → Option Attribute
-at_code code None = None
-at_code code (Some f) = if f.code == code then Some (record { flags = kept_flags f.flags; value = f.value }) else None
-
 head_at : (code at : ℕ) (r : Route) → AllByRecursion IsSpelled r → at_code code (head_found at r) ≡ front code r
 head_at code at [] all = refl
 head_at code at (e ∷ r) all =
     rw (all.0.code) (ap (λ f. if e.0 == code then Some (record { flags = f; value = (found at (canonical e)).value }) else None) all.0.flags
-      ∙ ap (λ v. if e.0 == code then Some (record { flags = e.1.flags; value = v }) else None) all.0.value)
+    ∙ ap (λ v. if e.0 == code then Some (record { flags = e.1.flags; value = v }) else None) all.0.value)
 
 upper_spelled : (code : ℕ) (r : Route) → AllByRecursion IsSpelled r → AllByRecursion IsSpelled (upper code r)
 upper_spelled code [] all = tt
@@ -87,19 +82,7 @@ code_found from s is =
     ap (option_map (λ (f : Found). f.code)) (found_is from s is)
     ∙ head_code from (length (canon (lower from (route_of s)))) (route_of s) (route_spelled (route_of s) is.route)
 
--- where a code stands or would stand, by what the walk finds
-abbrev pub gap_of : ℕ → ℕ → Option Found → ℕ × ℕ
-gap_of code len None = (len, len)
-gap_of code len (Some f) = (f.at, if f.code == code then f.at + length f.raw else f.at)
-
--- the parts of a section around a code
-pub record IsGap (code : ℕ) (s : List ℕ) (g : ℕ × ℕ) : Type 0 where
-  pub before : take g.0 s ≡ canon (lower code (route_of s))
-  pub behind : drop g.1 s ≡ canon (past code (upper code (route_of s)))
-  pub order : g.0 ≤ g.1
-  pub inside : g.1 ≤ length s
-
-canon_parts : (l u : Route) → canon (l ++ u) ≡ canon l ++ canon u
+pub canon_parts : (l u : Route) → canon (l ++ u) ≡ canon l ++ canon u
 canon_parts [] u = refl
 canon_parts (e ∷ l) u = ap (λ s. canonical e ++ s) (canon_parts l u) ∙ sym (append_assoc (canonical e) (canon l) (canon u))
 
@@ -150,3 +133,20 @@ gap_is code s is =
       order = h.2;
       inside = h.3;
     }
+
+head_inside : (l u : Route) (f : Found) → head_found (length (canon l)) u ≡ Some f → f.at + length f.raw ≤ length (canon l ++ canon u)
+head_inside l [] f is = absurd (cc is)
+head_inside l (e ∷ u) f is =
+    let same : found (length (canon l)) (canonical e) ≡ f = cc is in
+    subst (λ (g : Found). g.at + length g.raw ≤ length (canon l ++ canon (e ∷ u))) same
+    (omega (arith, length-append (canon l) (canonical e ++ canon u), length-append (canonical e) (canon u)))
+
+-- what a walk finds stands inside
+pub found_inside : (from : ℕ) (s : List ℕ) → IsCanonical s → IfSome (found_from from (attributes_from 0 s)) (λ f. f.at + length f.raw ≤ length s)
+found_inside from s is =
+    let r = route_of s in
+    let parts : canon (lower from r) ++ canon (upper from r) ≡ s = sym (canon_parts (lower from r) (upper from r)) ∙ ap canon (split_is from r) ∙ is.octets in
+    elim (found_from from (attributes_from 0 s)) as (λ o. found_from from (attributes_from 0 s) ≡ o → IfSome o (λ f. f.at + length f.raw ≤ length s)) [
+      | None ↦ λ e. tt
+      | Some f ↦ λ e. subst (λ (t : List ℕ). f.at + length f.raw ≤ length t) parts (head_inside (lower from r) (upper from r) f (sym (found_is from s is) ∙ e))
+    ] refl

@@ -3,3 +3,4 @@ pub mod Reading
 pub mod Places
 pub mod Finding
 pub mod Edits
+pub mod Loading

@@ -1,5 +1,5 @@
 -- Where a code stands in a route by rising code.
-use Rattle.std.proofs.Common.{◌≡◌, inl, inr, refl, sym, ap, ℕ, ◌<◌, [], ◌∷◌, ◌++◌, Option, Some, None, arith, nat_lt}
+use Rattle.std.proofs.Common.{◌≡◌, inl, inr, refl, sym, ◌∙◌, ap, ℕ, ◌<◌, [], ◌∷◌, ◌++◌, Option, Some, None, arith, nat_lt}
 use Rattle.std.specs.Prelude.{◌==◌, if◌then◌else◌}
 use Rattle.std.specs.List.{AllByRecursion}
 use Rattle.std.specs.List.Sorted.{IsStrictlySortedBy}
@@ -29,18 +29,18 @@ front code (e ∷ r) = if e.0 == code then Some e.1 else None
 less : (a b : ℕ) → a < b → nat_cmp a b ≡ Less
 less a b l = sym (nat_cmp_is a b Less l)
 
-greater : (a b : ℕ) → b < a → nat_cmp a b ≡ Greater
+pub greater : (a b : ℕ) → b < a → nat_cmp a b ≡ Greater
 greater a b l = sym (nat_cmp_is a b Greater l)
 
-same : (a b : ℕ) → a ≡ b → nat_cmp a b ≡ Equal
-same a b e = sym (nat_cmp_is a b Equal e)
+pub equal : (a b : ℕ) → a ≡ b → nat_cmp a b ≡ Equal
+equal a b e = sym (nat_cmp_is a b Equal e)
 
 pub with_is : (code : ℕ) (a : Attribute) (r : Route) → with_value nat_cmp r code a ≡ lower code r ++ (code, a) ∷ past code (upper code r)
 with_is code a [] = refl
 with_is code a (e ∷ r) = elim (cases_Bool (nat_lt e.0 code)) [
   | inl below ↦ rw (greater code e.0 (ltb-true e.0 code below), below) (ap (λ (l : Route). e ∷ l) (with_is code a r))
   | inr from ↦ elim (eqb_tells e.0 code) [
-    | inl here ↦ rw (same code e.0 (sym here.1), from, here.0) (ap (λ k. (k, a) ∷ r) here.1)
+    | inl here ↦ rw (equal code e.0 (sym here.1), from, here.0) (ap (λ k. (k, a) ∷ r) here.1)
     | inr other ↦ rw (less code e.0 (omega (arith, ltb-false e.0 code from, other.1)), from, other.0) refl
   ]
 ]
@@ -61,7 +61,7 @@ without_is code [] rising = refl
 without_is code (e ∷ r) rising = elim (cases_Bool (nat_lt e.0 code)) [
   | inl below ↦ rw (greater code e.0 (ltb-true e.0 code below), below) (ap (λ (l : Route). e ∷ l) (without_is code r rising.1))
   | inr from ↦ elim (eqb_tells e.0 code) [
-    | inl here ↦ rw (same code e.0 (sym here.1), from, here.0) refl
+    | inl here ↦ rw (equal code e.0 (sym here.1), from, here.0) refl
     | inr other ↦
         let before : code < e.0 = omega (arith, ltb-false e.0 code from, other.1) in
         rw (less code e.0 before, from, other.0) (ap (λ (l : Route). e ∷ l) (below_none code r (past_all code e.0 r before rising.0)).0)
@@ -74,9 +74,18 @@ at_is code [] rising = refl
 at_is code (e ∷ r) rising = elim (cases_Bool (nat_lt e.0 code)) [
   | inl below ↦ rw (greater code e.0 (ltb-true e.0 code below), below) (at_is code r rising.1)
   | inr from ↦ elim (eqb_tells e.0 code) [
-    | inl here ↦ rw (same code e.0 (sym here.1), from, here.0) refl
+    | inl here ↦ rw (equal code e.0 (sym here.1), from, here.0) refl
     | inr other ↦
         let before : code < e.0 = omega (arith, ltb-false e.0 code from, other.1) in
         rw (less code e.0 before, from, other.0) (below_none code r (past_all code e.0 r before rising.0)).1
+  ]
+]
+
+pub is_less : (a b : ℕ) → nat_cmp a b ≡ Less → a < b
+is_less a b e = elim (cases_Bool (nat_lt a b)) [
+  | inl below ↦ ltb-true a b below
+  | inr from ↦ elim (eqb_tells a b) [
+    | inl here ↦ absurd (cc (sym e ∙ equal a b here.1))
+    | inr other ↦ absurd (cc (sym e ∙ greater a b (omega (arith, ltb-false a b from, other.1))))
   ]
 ]

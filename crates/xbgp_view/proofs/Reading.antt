@@ -8,7 +8,7 @@ use Rattle.std.specs.Map.{keys_of}
 use Rattle.std.specs.Ordering.{nat_cmp, ordering_reverse}
 use Rattle.std.specs.declared.cmp.Ordering.TheVariants.{Less}
 use Rattle.std.proofs.lemmas.Cmp.{nat_cmp_total}
-use Rattle.xb_words.specs.Cut.{Pieces}
+use Rattle.xb_words.specs.Cut.{Pieces, cut}
 use Rattle.xb_words.specs.Table.{with_value}
 use Rattle.bgp_attr.specs.Attributes.{flags_of, code_of, value_of}
 use Rattle.bgp_attr.specs.Routes.{Attribute, Route, route_of, canon, canonical, neutral, with_attribute, IsRoute}
@@ -68,3 +68,12 @@ route_back r is =
 
 pub canonical_is : (r : Route) → IsRoute r → IsCanonical (canon r)
 canonical_is r is = record { route = subst IsRoute (sym (route_back r is)) is; octets = ap canon (route_back r is) }
+
+-- the section of no attributes
+pub no_route : route_of [] ≡ []
+unfolding cut
+no_route = refl
+
+pub empty_is : IsCanonical []
+unfolding IsStrictlySortedBy
+empty_is = canonical_is [] (record { rising = tt; entries = tt; short = omega arith })

@@ -12,3 +12,6 @@ mod view;
 
 pub use overlay::Overlay;
 pub use view::RouteView;
+
+#[cfg(test)]
+mod tests;
