@@ -1,0 +1,79 @@
+-- A canonical section is read as the route that it was written from.
+use Rattle.std.proofs.Common.{◌≡◌, refl, sym, ap, subst, ◌∙◌, ℕ, List, [], ◌∷◌, ◌++◌, map, fold, arith, append_assoc}
+use Rattle.std.specs.Prelude.{bit_and}
+use Rattle.std.proofs.lemmas.List.{append-nil}
+use Rattle.std.specs.List.{AllByRecursion}
+use Rattle.std.specs.List.Sorted.{IsStrictlySortedBy}
+use Rattle.std.specs.Map.{keys_of}
+use Rattle.std.specs.Ordering.{nat_cmp, ordering_reverse}
+use Rattle.std.specs.declared.cmp.Ordering.TheVariants.{Less}
+use Rattle.std.proofs.lemmas.Cmp.{nat_cmp_total}
+use Rattle.xb_words.specs.Cut.{Pieces, cut}
+use Rattle.xb_words.specs.Table.{with_value}
+use Rattle.bgp_attr.specs.Attributes.{flags_of, code_of, value_of}
+use Rattle.bgp_attr.specs.Routes.{Attribute, Route, route_of, canon, canonical, neutral, with_attribute, IsRoute}
+use Rattle.xbgp_view.specs.Sections.{IsCanonical}
+use Rattle.xbgp_view.proofs.Canonical.{IsSpelled, all_spelled, canon_cut}
+
+-- every key is below a code
+abbrev Below : ℕ → Route → Type 0
+Below code r = AllByRecursion (λ k. nat_cmp k code ≡ Less) (keys_of r)
+
+-- an attribute behind all others is appended
+add_last : (r : Route) (code : ℕ) (a : Attribute) → Below code r → with_value nat_cmp r code a ≡ r ++ (code, a) ∷ []
+add_last [] code a below = refl
+add_last (e ∷ r) code a below =
+    let greater = nat_cmp_total.antisymm code e.0 ∙ ap ordering_reverse below.0 in
+    rw greater (ap (λ (l : Route). e ∷ l) (add_last r code a below.1))
+
+below_more : (r : Route) (code : ℕ) (e : ℕ × Attribute) → Below code r → nat_cmp e.0 code ≡ Less → Below code (r ++ e ∷ [])
+below_more [] code e below less = (less, tt)
+below_more (x ∷ r) code e below less = (below.0, below_more r code e below.1 less)
+
+abbrev AllBelow : Route → Route → Type 0
+AllBelow acc r = AllByRecursion (λ k. Below k acc) (keys_of r)
+
+all_below_more : (acc r : Route) (e : ℕ × Attribute) → AllBelow acc r → AllByRecursion (λ k. nat_cmp e.0 k ≡ Less) (keys_of r) → AllBelow (acc ++ e ∷ []) r
+all_below_more acc [] e below less = tt
+all_below_more acc (x ∷ r) e below less = (below_more acc x.0 e below.0 less.0, all_below_more acc r e below.1 less.1)
+
+-- an attribute as it is read enters a route
+abbrev enter : Route → List ℕ → Route
+enter r a = with_attribute r (code_of a) (flags_of a) (value_of a)
+
+entered : (acc : Route) (e : ℕ × Attribute) → IsSpelled e → Below e.0 acc → enter acc (canonical e) ≡ acc ++ e ∷ []
+entered acc e is below =
+    ap (λ c. with_value nat_cmp acc c (record { flags = (bit_and (flags_of (canonical e)) 224); value = value_of (canonical e) })) is.code
+    ∙ ap (λ f. with_value nat_cmp acc e.0 (record { flags = f; value = value_of (canonical e) })) is.flags
+    ∙ ap (λ v. with_value nat_cmp acc e.0 (record { flags = e.1.flags; value = v })) is.value
+    ∙ add_last acc e.0 e.1 below
+
+entered_all : (acc r : Route) → AllByRecursion IsSpelled r → IsStrictlySortedBy nat_cmp (keys_of r) → AllBelow acc r
+    → fold (λ r a. with_attribute r (code_of a) (flags_of a) (value_of a)) acc (map canonical r) ≡ acc ++ r
+unfolding IsStrictlySortedBy
+entered_all acc [] all rising below = sym (append-nil acc)
+entered_all acc (e ∷ r) all rising below =
+    ap (λ x. fold (λ r a. with_attribute r (code_of a) (flags_of a) (value_of a)) x (map canonical r)) (entered acc e all.0 below.0)
+    ∙ entered_all (acc ++ e ∷ []) r all.1 rising.1 (all_below_more acc r e below.1 rising.0)
+    ∙ append_assoc acc (e ∷ []) r
+
+none_below : (r : Route) → AllBelow [] r
+none_below [] = tt
+none_below (e ∷ r) = (tt, none_below r)
+
+pub route_back : (r : Route) → IsRoute r → route_of (canon r) ≡ r
+route_back r is =
+    let all = all_spelled r 4112 is.entries is.short (omega arith) in
+    ap (λ (p : Pieces). neutral p.items) (canon_cut r all) ∙ entered_all [] r all is.rising (none_below r)
+
+pub canonical_is : (r : Route) → IsRoute r → IsCanonical (canon r)
+canonical_is r is = record { route = subst IsRoute (sym (route_back r is)) is; octets = ap canon (route_back r is) }
+
+-- the section of no attributes
+pub no_route : route_of [] ≡ []
+unfolding cut
+no_route = refl
+
+pub empty_is : IsCanonical []
+unfolding IsStrictlySortedBy
+empty_is = canonical_is [] (record { rising = tt; entries = tt; short = omega arith })
