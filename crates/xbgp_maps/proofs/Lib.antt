@@ -1,0 +1,3 @@
+pub mod Middles
+pub mod Entries
+pub mod Trees
