@@ -1,3 +1,4 @@
 pub mod Middles
 pub mod Entries
 pub mod Trees
+pub mod Tables

@@ -17,7 +17,7 @@ or_entry None e = Some e
 or_entry (Some f) e = Some f
 
 module _ {K : Type 0} (c : K → K → Ordering) (o : IsTotalOrder c) where
-  under : (x k : K) → c k x ≡ Greater → c x k ≡ Less
+  pub under : (x k : K) → c k x ≡ Greater → c x k ≡ Less
   under x k h = o.antisymm x k ∙ ap ordering_reverse h
 
   over : (x k : K) → c k x ≡ Less → c x k ≡ Greater
@@ -28,7 +28,7 @@ module _ {K X : Type 0} (c : K → K → Ordering) (o : IsTotalOrder c) where
   abbrev pub Each : Ordering → K → List (K × X) → Type 0
   Each r q es = AllByRecursion (λ (e : K × X). c q e.0 ≡ r) es
 
-  head_rises : (e : K × X) (es : List (K × X)) → IsRising c (e ∷ es) → Each Less e.0 es
+  pub head_rises : (e : K × X) (es : List (K × X)) → IsRising c (e ∷ es) → Each Less e.0 es
   unfolding IsStrictlySortedBy
   head_rises e es rising = of_keys es rising.0
     where
@@ -36,7 +36,7 @@ module _ {K X : Type 0} (c : K → K → Ordering) (o : IsTotalOrder c) where
       of_keys [] a = tt
       of_keys (f ∷ fs) a = (a.0, of_keys fs a.1)
 
-  tail_rises : (e : K × X) (es : List (K × X)) → IsRising c (e ∷ es) → IsRising c es
+  pub tail_rises : (e : K × X) (es : List (K × X)) → IsRising c (e ∷ es) → IsRising c es
   unfolding IsStrictlySortedBy
   tail_rises e es rising = rising.1
 
@@ -69,11 +69,11 @@ module _ {K X : Type 0} (c : K → K → Ordering) (o : IsTotalOrder c) where
   rising_right ls e rs rising = tail_rises e rs (rising_rest ls (e ∷ rs) rising)
 
   -- a key that is below an entry is below all behind it
-  each_above : (q : K) (e : K × X) (rs : List (K × X)) → c q e.0 ≡ Less → Each Less e.0 rs → Each Less q rs
+  pub each_above : (q : K) (e : K × X) (rs : List (K × X)) → c q e.0 ≡ Less → Each Less e.0 rs → Each Less q rs
   each_above q e [] less a = tt
   each_above q e (r ∷ rs) less a = (o.trans q e.0 r.0 less a.0, each_above q e rs less a.1)
 
-  above_equal : (q : K) (e : K × X) (rs : List (K × X)) → c q e.0 ≡ Equal → Each Less e.0 rs → Each Less q rs
+  pub above_equal : (q : K) (e : K × X) (rs : List (K × X)) → c q e.0 ≡ Equal → Each Less e.0 rs → Each Less q rs
   above_equal q e [] same a = tt
   above_equal q e (r ∷ rs) same a = (o.congr q e.0 r.0 same ∙ a.0, above_equal q e rs same a.1)
 

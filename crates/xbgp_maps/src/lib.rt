@@ -1,8 +1,10 @@
 //! Maps of programs, whose writes can be undone.
 #![tactic(auto)]
 
+mod journal;
 mod node;
 mod shape;
+mod table;
 mod tree;
 
 pub use shape::{MapShape, Put, Remove};

@@ -91,9 +91,8 @@ pub fn overwrite(tree: &mut Tree, key: &[u8], value: &[u8])
     }
 }
 
-/// Puts in a node that is alone, at a key that is not there.
 #[tactic(auto, using(crate::proofs::Trees::smaller_left, crate::proofs::Trees::smaller_right, crate::proofs::Trees::left_rises, crate::proofs::Trees::right_rises, crate::proofs::Trees::value_left, crate::proofs::Trees::value_here, crate::proofs::Trees::value_right, crate::proofs::Trees::with_left, crate::proofs::Trees::with_right))]
-pub fn insert(tree: Tree, new: Box<Node>) -> Tree
+fn with_node(tree: Tree, new: Box<Node>) -> Tree
     requires rising { IsRising key_cmp (entries_of tree) }
     requires alone { IsAlone new.value }
     requires absent { value_at key_cmp (entries_of tree) new.value.key.items ≡ None }
@@ -104,16 +103,26 @@ pub fn insert(tree: Tree, new: Box<Node>) -> Tree
         Tree::Fork(mut node) => {
             match new.key.as_slice().cmp(&node.key.as_slice()) {
                 Ordering::Less => {
-                    node.left = insert(node.left.take(), new);
+                    node.left = with_node(node.left.take(), new);
                     Tree::Fork(balanced(node))
                 }
                 _ => {
-                    node.right = insert(node.right.take(), new);
+                    node.right = with_node(node.right.take(), new);
                     Tree::Fork(balanced(node))
                 }
             }
         }
     }
+}
+
+/// Puts in a node that is alone, at a key that is not there.
+pub fn insert(tree: &mut Tree, new: Box<Node>)
+    requires rising { IsRising key_cmp (entries_of tree.old) }
+    requires alone { IsAlone new.value }
+    requires absent { value_at key_cmp (entries_of tree.old) new.value.key.items ≡ None }
+    ensures { entries_of tree.new ≡ with_value key_cmp (entries_of tree.old) new.value.key.items new.value.value.items }
+{
+    *tree = with_node(tree.take(), new);
 }
 
 // Takes the node of the least key out, which then is alone.
@@ -149,9 +158,8 @@ fn joined(left: Tree, right: Tree) -> Tree
     }
 }
 
-/// Takes the node at a key out, if there is one; then it is alone.
 #[tactic(auto, using(crate::proofs::Trees::smaller_left, crate::proofs::Trees::smaller_right, crate::proofs::Trees::left_rises, crate::proofs::Trees::right_rises, crate::proofs::Trees::value_left, crate::proofs::Trees::value_here, crate::proofs::Trees::value_right, crate::proofs::Trees::without_left, crate::proofs::Trees::without_here, crate::proofs::Trees::without_right, crate::proofs::Trees::same_key))]
-pub fn remove(tree: Tree, key: &[u8]) -> (Tree, Option<Box<Node>>)
+fn without_node(tree: Tree, key: &[u8]) -> (Tree, Option<Box<Node>>)
     requires { IsRising key_cmp (entries_of tree) }
     ensures entries { entries_of result.0 ≡ without key_cmp (entries_of tree) key.now }
     ensures taken { IsTaken (entries_of tree) key.now (option_map (λ n. n.value) result.1) }
@@ -160,12 +168,12 @@ pub fn remove(tree: Tree, key: &[u8]) -> (Tree, Option<Box<Node>>)
         Tree::Leaf => (Tree::Leaf, None),
         Tree::Fork(mut node) => match key.cmp(&node.key.as_slice()) {
             Ordering::Less => {
-                let (rest, taken) = remove(node.left.take(), key);
+                let (rest, taken) = without_node(node.left.take(), key);
                 node.left = rest;
                 (Tree::Fork(balanced(node)), taken)
             }
             Ordering::Greater => {
-                let (rest, taken) = remove(node.right.take(), key);
+                let (rest, taken) = without_node(node.right.take(), key);
                 node.right = rest;
                 (Tree::Fork(balanced(node)), taken)
             }
@@ -176,4 +184,15 @@ pub fn remove(tree: Tree, key: &[u8]) -> (Tree, Option<Box<Node>>)
             }
         },
     }
+}
+
+/// Takes the node at a key out, if there is one; then it is alone.
+pub fn remove(tree: &mut Tree, key: &[u8]) -> Option<Box<Node>>
+    requires { IsRising key_cmp (entries_of tree.old) }
+    ensures entries { entries_of tree.new ≡ without key_cmp (entries_of tree.old) key.now }
+    ensures taken { IsTaken (entries_of tree.old) key.now (option_map (λ n. n.value) result) }
+{
+    let (rest, taken) = without_node(tree.take(), key);
+    *tree = rest;
+    taken
 }
