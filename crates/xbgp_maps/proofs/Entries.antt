@@ -111,6 +111,14 @@ module _ {K X : Type 0} (c : K → K → Ordering) (o : IsTotalOrder c) where
       (λ q. rw q refl)
       (λ g. rw g (ap suc (length_there es k v w (tail_rises c o e es rising) (rw g at there))))
 
+  -- what was written is there
+  pub value_with : (es : List (K × X)) (k : K) (v : X) → value_at c (with_value c es k v) k ≡ Some v
+  value_with [] k v = rw (tied_itself o k) refl
+  value_with (e ∷ es) k v = by_ordering (c k e.0)
+      (λ l. rw (l, tied_itself o k) refl)
+      (λ q. rw (q, q) refl)
+      (λ g. rw (g, g) (value_with es k v))
+
   -- a new entry is taken out again
   pub undo_new : (es : List (K × X)) (k : K) (v : X) → value_at c es k ≡ None → without c (with_value c es k v) k ≡ es
   undo_new [] k v absent = rw (tied_itself o k) refl

@@ -2,3 +2,4 @@ pub mod Middles
 pub mod Entries
 pub mod Trees
 pub mod Tables
+pub mod Journals

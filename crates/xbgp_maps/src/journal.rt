@@ -78,7 +78,7 @@ impl Change {
 
     fn fill(&mut self, map: u32, key: &[u8], old: Option<&[u8]>)
         requires key { length key.now ≤ 64 }
-        requires old { IfSome old.entry (λ v. length v.now ≤ 256) }
+        requires old { IfSome old (λ v. length v.now ≤ 256) }
         ensures { self.new ≡ record { map = map; key = key.now; old = option_map (λ v. v.now) old.entry } }
     {
         self.map = map;
@@ -150,7 +150,7 @@ impl Journal {
     pub fn note(&mut self, map: u32, key: &[u8], old: Option<&[u8]>)
         requires room { length self.old < budget }
         requires key { length key.now ≤ 64 }
-        requires old { IfSome old.entry (λ v. length v.now ≤ 256) }
+        requires old { IfSome old (λ v. length v.now ≤ 256) }
         ensures { self.new ≡ self.old ++ record { map = map; key = key.now; old = option_map (λ v. v.now) old.entry } ∷ [] }
     {
         self.changes[self.count].fill(map, key, old);

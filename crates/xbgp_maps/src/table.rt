@@ -140,7 +140,8 @@ impl Table {
     }
 
     pub fn key_after(&self, after: Option<&[u8]>) -> Option<&[u8]>
-        ensures { option_map (λ k. k.now) result ≡ option_map (λ e. e.0) (entry_after key_cmp self.now.entries (option_map (λ k. k.now) after.entry)) }
+        ensures key { option_map (λ k. k.now) result ≡ option_map (λ e. e.0) (entry_after key_cmp self.now.entries (option_map (λ k. k.now) after.entry)) }
+        ensures kept { IsMapping self.now }
     {
         match after {
             None => first(&self.root),
