@@ -1,9 +1,7 @@
 -- What a write and a removal do to a list of entries by rising key, and that each is undone by the other.
-use Rattle.std.proofs.Common.{◌≡◌, ℕ, suc, true, false, cond, List, [], ◌∷◌, ◌++◌, length, Option, Some, None, refl, sym, ◌∙◌, ap, subst}
+use Rattle.std.proofs.Common.{◌≡◌, suc, List, [], ◌∷◌, length, Some, None, refl, sym, ◌∙◌, ap, subst}
 use Rattle.std.specs.Cmp.{IsTotalOrder}
 use Rattle.std.specs.List.{AllByRecursion}
-use Rattle.std.specs.List.Sorted.{IsStrictlySortedBy}
-use Rattle.std.specs.Ordering.{is_eq, ordering_reverse, match_ordering}
 use Rattle.std.specs.declared.cmp.Ordering.{Ordering}
 use Rattle.std.specs.declared.cmp.Ordering.TheVariants.{Less, Equal, Greater}
 use Rattle.std.proofs.lemmas.Cmp.{tied_itself}
@@ -77,9 +75,9 @@ module _ {K X : Type 0} (c : K → K → Ordering) (o : IsTotalOrder c) where
       let first = head_rises c o e es rising in
       let rest = tail_rises c o e es rising in
       by_ordering (c k e.0)
-        (λ l. rw l (rises c o (k, v) (e ∷ es) (l, each_above c o k e es l first) rising))
-        (λ q. rw q (rises c o (e.0, v) es first rest))
-        (λ g. rw g (rises c o e (with_value c es k v) (each_with e.0 es k v (under c o e.0 k g) first) (rising_with es k v rest)))
+      (λ l. rw l (rises c o (k, v) (e ∷ es) (l, each_above c o k e es l first) rising))
+      (λ q. rw q (rises c o (e.0, v) es first rest))
+      (λ g. rw g (rises c o e (with_value c es k v) (each_with e.0 es k v (under c o e.0 k g) first) (rising_with es k v rest)))
 
   pub rising_without : (es : List (K × X)) (k : K) → IsRising c es → IsRising c (without c es k)
   rising_without [] k rising = rising
@@ -145,8 +143,8 @@ module _ {K X : Type 0} (c : K → K → Ordering) (o : IsTotalOrder c) where
   undo_without exact (e ∷ es) k w rising there = by_ordering (c k e.0)
       (λ l. not_below e es k w rising there l)
       (λ q.
-        let same : e.1 ≡ w = cc (rw q at there) in
-        let key : k ≡ e.0 = exact k e.0 q in
-        let entry : (k, w) ∷ es ≡ e ∷ es = ap (λ (x : K). (x, w) ∷ es) key ∙ ap (λ (x : X). (e.0, x) ∷ es) (sym same) in
-        rw q (before_all es k w (above_equal c o k e es q (head_rises c o e es rising)) ∙ entry))
+      let same : e.1 ≡ w = cc (rw q at there) in
+      let key : k ≡ e.0 = exact k e.0 q in
+      let entry : (k, w) ∷ es ≡ e ∷ es = ap (λ (x : K). (x, w) ∷ es) key ∙ ap (λ (x : X). (e.0, x) ∷ es) (sym same) in
+      rw q (before_all es k w (above_equal c o k e es q (head_rises c o e es rising)) ∙ entry))
       (λ g. rw (g, g) (ap (λ (t : List (K × X)). e ∷ t) (undo_without exact es k w (tail_rises c o e es rising) (rw g at there))))

@@ -13,8 +13,8 @@ use Rattle.xbgp_maps.specs.declared.shape.Put.{Put}
 use Rattle.xbgp_maps.specs.declared.shape.Put.TheVariants as puts
 use Rattle.xbgp_maps.specs.declared.shape.Remove.{Remove}
 use Rattle.xbgp_maps.specs.declared.shape.Remove.TheVariants as removes
-use Rattle.xb_words.specs.Table.{value_at, with_value, without}
-use Rattle.xbgp_maps.specs.Mappings.{Mapping, IsMapping, Journalled, key_cmp, mapping_at, value_in, put_in, taken_from, put_answer, remove_answer, after_put, after_remove, budget, is_full, written, empty_maps, is_from_1_to, AreWithinLimits}
+use Rattle.xb_words.specs.Table.{without}
+use Rattle.xbgp_maps.specs.Mappings.{Mapping, IsMapping, Journalled, key_cmp, mapping_at, value_in, put_in, taken_from, put_answer, remove_answer, after_put, after_remove, budget, is_full, written, empty_maps, is_from_1_to, shapes_of, AreWithinLimits}
 use Rattle.xbgp_maps.specs.Journals.{Change, restored, taken_back, all_taken_back, CanTakeBack, CanTakeAllBack, IsNarrow, IsUndoable, seen, when_done, was_put, was_removed}
 use Rattle.xbgp_maps.proofs.Entries.{found, undo_new, undo_over, undo_without, value_with, length_without}
 
@@ -173,7 +173,7 @@ wrote_seen : (is_open : Bool) (ws : List Change) (maps : List Mapping) (n : ℕ)
 wrote_seen is_open ws maps n m after k opened there back =
     let w : Change = record { map = n; key = k; old = value_in m k } in
     let began : all_taken_back (ws ++ w ∷ []) (slice_set maps n after) ≡ all_taken_back ws maps =
-        all_back_push ws w (slice_set maps n after) ∙ ap (all_taken_back ws) (one_back maps n m after k (value_in m k) there back) in
+    all_back_push ws w (slice_set maps n after) ∙ ap (all_taken_back ws) (one_back maps n m after k (value_in m k) there back) in
     let count : length (ws ++ w ∷ []) ≡ length ws + 1 = simp length-append in
     rw opened (ap (λ (b : List Mapping). record { maps = slice_set maps n after; began = Some b; writes = length (ws ++ w ∷ []) }) began
     ∙ ap (λ (c : ℕ). record { maps = slice_set maps n after; began = Some (all_taken_back ws maps); writes = c }) count)
@@ -249,3 +249,56 @@ undoable_empty ws maps shapes limits none is = rw (none, is) (record { back = tt
 pub is_opened : (is_open : Bool) (maps : List Mapping) → IsSome (if is_open then Some maps else None) → is_open ≡ true
 is_opened true maps some = refl
 is_opened false maps some = absurd (cc some)
+
+-- a map that takes the place of one of its own shape changes no shape
+shapes_set : (maps : List Mapping) (n : ℕ) (m t : Mapping) → slice_get maps n ≡ Some m → t.shape ≡ m.shape → shapes_of (slice_set maps n t) ≡ shapes_of maps
+shapes_set [] n m t there same = absurd (cc there)
+shapes_set (x ∷ xs) zero m t there same =
+    let is : x ≡ m = cc there in
+    ap (λ (s : MapShape). s ∷ shapes_of xs) (same ∙ ap (λ (y : Mapping). y.shape) (sym is))
+shapes_set (x ∷ xs) (suc n) m t there same = ap (λ (ss : List MapShape). x.shape ∷ ss) (shapes_set xs n m t there same)
+
+shapes_back_one : (w : Change) (maps : List Mapping) → shapes_of (taken_back w maps) ≡ shapes_of maps
+shapes_back_one w maps = by (mapping_at maps w.map) refl
+  where
+    of : (m : Mapping) (old : Option (List ℕ)) → (restored m w.key old).shape ≡ m.shape
+    of m None = refl
+    of m (Some v) = refl
+
+    by : (o : Option Mapping) → mapping_at maps w.map ≡ o → shapes_of (elim o [ None ↦ maps | Some m ↦ slice_set maps w.map (restored m w.key w.old) ]) ≡ shapes_of maps
+    by None is = refl
+    by (Some m) is = shapes_set maps w.map m (restored m w.key w.old) is (of m w.old)
+
+shapes_back : (ws : List Change) (maps : List Mapping) → shapes_of (all_taken_back ws maps) ≡ shapes_of maps
+shapes_back [] maps = refl
+shapes_back (w ∷ ws) maps = shapes_back_one w (all_taken_back ws maps) ∙ shapes_back ws maps
+
+pub undone_shapes : (ws : List Change) (maps after : List Mapping) → after ≡ all_taken_back ws maps → shapes_of after ≡ shapes_of maps
+undone_shapes ws maps after is = ap shapes_of is ∙ shapes_back ws maps
+
+pub put_shapes : (maps : List Mapping) (n : ℕ) (m t : Mapping) (k v : List ℕ) (answer : Put) → slice_get maps n ≡ Some m → t ≡ when_done (was_put answer) (put_in m k v) m → shapes_of (slice_set maps n t) ≡ shapes_of maps
+put_shapes maps n m t k v puts.Done there table = shapes_set maps n m t there (ap (λ (x : Mapping). x.shape) table)
+put_shapes maps n m t k v puts.Full there table = shapes_set maps n m t there (ap (λ (x : Mapping). x.shape) table)
+put_shapes maps n m t k v puts.Budget there table = shapes_set maps n m t there (ap (λ (x : Mapping). x.shape) table)
+
+pub remove_shapes : (maps : List Mapping) (n : ℕ) (m t : Mapping) (k : List ℕ) (answer : Remove) → slice_get maps n ≡ Some m → t ≡ when_done (was_removed answer) (taken_from m k) m → shapes_of (slice_set maps n t) ≡ shapes_of maps
+remove_shapes maps n m t k removes.Done there table = shapes_set maps n m t there (ap (λ (x : Mapping). x.shape) table)
+remove_shapes maps n m t k removes.Absent there table = shapes_set maps n m t there (ap (λ (x : Mapping). x.shape) table)
+remove_shapes maps n m t k removes.Budget there table = shapes_set maps n m t there (ap (λ (x : Mapping). x.shape) table)
+
+-- what is seen of the begin, where the answer is one that the write gives
+put_began : (j : Journalled) (n : ℕ) (m : Mapping) (k v : List ℕ) (answer : Put) → (after_put j n m k v answer).began ≡ j.began
+put_began j n m k v puts.Done = refl
+put_began j n m k v puts.Full = refl
+put_began j n m k v puts.Budget = refl
+
+remove_began : (j : Journalled) (n : ℕ) (m : Mapping) (k : List ℕ) (answer : Remove) → (after_remove j n m k answer).began ≡ j.began
+remove_began j n m k removes.Done = refl
+remove_began j n m k removes.Absent = refl
+remove_began j n m k removes.Budget = refl
+
+pub began_after_put : (j after : Journalled) (n : ℕ) (m : Mapping) (k v : List ℕ) (answer : Put) → after ≡ after_put j n m k v answer → after.began ≡ j.began
+began_after_put j after n m k v answer is = ap (λ (x : Journalled). x.began) is ∙ put_began j n m k v answer
+
+pub began_after_remove : (j after : Journalled) (n : ℕ) (m : Mapping) (k : List ℕ) (answer : Remove) → after ≡ after_remove j n m k answer → after.began ≡ j.began
+began_after_remove j after n m k answer is = ap (λ (x : Journalled). x.began) is ∙ remove_began j n m k answer

@@ -3,3 +3,4 @@ pub mod Entries
 pub mod Trees
 pub mod Tables
 pub mod Journals
+pub mod Shapes

@@ -1,18 +1,17 @@
 -- A table stays one when a value is written over, a new key is entered or a key is taken out.
-use Rattle.std.proofs.Common.{◌≡◌, ℕ, suc, ◌+◌, ◌<◌, ◌≤◌, List, [], ◌∷◌, ◌++◌, length, map, Option, Some, None, is_some, true, IsSome, refl, sym, ◌∙◌, ap, subst, arith, length-append}
+use Rattle.std.proofs.Common.{◌≡◌, ℕ, suc, ◌+◌, ◌<◌, ◌≤◌, List, [], ◌∷◌, ◌++◌, length, map, Option, Some, None, IsSome, refl, sym, ◌∙◌, ap, subst, arith, length-append}
 use Rattle.std.specs.List.{AllByRecursion}
 use Rattle.std.specs.List.Sorted.{IsStrictlySortedBy}
-use Rattle.std.specs.declared.cmp.Ordering.TheVariants.{Less, Equal, Greater}
 use Rattle.std.proofs.lemmas.List.{length-map}
 use Rattle.std.proofs.lemmas.Cmp.{nat_list_cmp_total}
 use Rattle.std.proofs.lemmas.Map.Lookups.{exact_bytes}
-use Rattle.xb_words.specs.Table.{value_at, with_value, without, IsRising}
+use Rattle.xb_words.specs.Table.{with_value, without}
 use Rattle.xbgp_maps.specs.declared.node.Node.{Node}
 use Rattle.xbgp_maps.specs.declared.shape.MapShape.{MapShape}
 use Rattle.xbgp_maps.specs.Mappings.{Mapping, IsMapping, key_cmp, value_in, put_in, taken_from}
 use Rattle.xbgp_maps.specs.Tables.{IsTable, IsBlank}
 use Rattle.xbgp_maps.specs.Trees.{HaveWidth, IsAlone}
-use Rattle.xbgp_maps.proofs.Entries.{by_ordering, all_with, all_without, all_over, found, length_new, length_without, length_there, without_absent, rising_with, rising_without}
+use Rattle.xbgp_maps.proofs.Entries.{all_with, all_without, all_over, found, length_new, length_without, length_there, without_absent, rising_with, rising_without}
 
 abbrev Entries : Type 0
 Entries = List (List ℕ × List ℕ)

@@ -50,6 +50,10 @@ mapping_at maps n = slice_get maps n
 abbrev pub empty_maps : List MapShape → List Mapping
 empty_maps shapes = map (λ s. record { shape = s; entries = [] }) shapes
 
+-- the shapes of maps, which no call changes
+abbrev pub shapes_of : List Mapping → List MapShape
+shapes_of maps = map (λ m. m.shape) maps
+
 abbrev pub value_in : Mapping → List ℕ → Option (List ℕ)
 value_in m key = value_at key_cmp m.entries key
 

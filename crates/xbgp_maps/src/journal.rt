@@ -12,6 +12,7 @@ const BUDGET: usize = 64;
 
 // No map has wider keys and values.
 const KEY: usize = 64;
+
 const VALUE: usize = 256;
 
 /// A write: the map, the key, and the value that stood there before, or none.

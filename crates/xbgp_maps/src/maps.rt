@@ -2,7 +2,7 @@
 ghost use Rattle.std.specs.Prelude.{◌≡◌, ◌<◌, ◌≤◌, [], ◌∷◌, ◌++◌, length, None, IsSome, IfSome, IfOk};
 ghost use Rattle.std.specs.Option.{option_map};
 ghost use Rattle.xbgp_maps.specs.Journals.{CanTakeBack, CanTakeAllBack, IsNarrow, taken_back, all_taken_back, restored, was_put, was_removed, when_done};
-ghost use Rattle.xbgp_maps.specs.Mappings.{after_put, after_remove, budget, closed, empty_maps, key_behind, mapping_at, opened, put_answer, put_in, remove_answer, taken_from, value_in, value_of, AreWithinLimits, IsMapping};
+ghost use Rattle.xbgp_maps.specs.Mappings.{after_put, after_remove, budget, closed, empty_maps, key_behind, mapping_at, opened, put_answer, put_in, remove_answer, shapes_of, taken_from, value_in, value_of, AreWithinLimits, IsMapping};
 
 use crate::journal::{Change, Journal};
 use crate::shape::{MapShape, Put, Remove};
@@ -158,6 +158,8 @@ impl Maps {
         requires open { IsSome self.old.began }
         ensures answer { IfSome (mapping_at self.old.maps map) (λ m. result ≡ put_answer self.old.writes m key.now) }
         ensures after { IfSome (mapping_at self.old.maps map) (λ m. self.new ≡ after_put self.old map m key.now value.now result) }
+        ensures began { self.new.began ≡ self.old.began }
+        ensures shapes { shapes_of self.new.maps ≡ shapes_of self.old.maps }
     {
         let table = &mut self.tables[map as usize];
         write(table, &mut self.journal, map, key, value)
@@ -170,6 +172,8 @@ impl Maps {
         requires open { IsSome self.old.began }
         ensures answer { IfSome (mapping_at self.old.maps map) (λ m. result ≡ remove_answer self.old.writes m key.now) }
         ensures after { IfSome (mapping_at self.old.maps map) (λ m. self.new ≡ after_remove self.old map m key.now result) }
+        ensures began { self.new.began ≡ self.old.began }
+        ensures shapes { shapes_of self.new.maps ≡ shapes_of self.old.maps }
     {
         let table = &mut self.tables[map as usize];
         take_out(table, &mut self.journal, map, key)
@@ -195,7 +199,8 @@ impl Maps {
     /// Closes the run and gives back the maps as at its begin.
     pub fn undo(&mut self)
         requires { IsSome self.old.began }
-        ensures { IfSome self.old.began (λ began. self.new ≡ closed began) }
+        ensures undone { IfSome self.old.began (λ began. self.new ≡ closed began) }
+        ensures shapes { shapes_of self.new.maps ≡ shapes_of self.old.maps }
     {
         take_all_back(&mut self.tables, &mut self.journal);
         self.is_open = false;

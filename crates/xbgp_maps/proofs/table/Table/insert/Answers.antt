@@ -1,5 +1,4 @@
-use Rattle.std.proofs.Common.{◌≡◌, List, [], ◌∷◌, ◌++◌, length, map, None, sym, ap, subst, ◌∙◌}
-use Rattle.std.specs.List.{AllByRecursion}
+use Rattle.std.proofs.Common.{◌≡◌, length, None, sym, ◌∙◌}
 use Rattle.xbgp_maps.specs.Mappings.{Mapping, value_in}
 use Rattle.xbgp_maps.specs.Tables.{IsBlank}
 use Rattle.xbgp_maps.specs.Trees.{entries_of}

@@ -1,4 +1,3 @@
-use Rattle.std.proofs.Common.{◌∙◌}
 use Rattle.std.proofs.lemmas.List.{length-map}
 use Rattle.xbgp_maps.proofs.Tables.{table_empty}
 use Rattle.xbgp_maps.proofs.table.Table.make.Goals as goal

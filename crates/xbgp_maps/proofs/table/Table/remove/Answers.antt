@@ -1,6 +1,6 @@
-use Rattle.std.proofs.Common.{◌≡◌, ◌<◌, length, map, vec_capacity, Some, None}
+use Rattle.std.proofs.Common.{map, Some}
 use Rattle.std.proofs.lemmas.List.{length-map}
-use Rattle.xbgp_maps.specs.Mappings.{Mapping, value_in}
+use Rattle.xbgp_maps.specs.Mappings.{Mapping}
 use Rattle.xbgp_maps.specs.Trees.{entries_of, IsTaken}
 use Rattle.xbgp_maps.proofs.Tables.{table_gone, table_absent, spare_below}
 use Rattle.xbgp_maps.proofs.table.Table.remove.Goals as goal
