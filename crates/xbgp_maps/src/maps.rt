@@ -82,14 +82,14 @@ fn take_out(table: &mut Table, journal: &mut Journal, map: u32, key: &[u8]) -> R
     ensures table { table.new ≡ when_done (was_removed result) (taken_from table.old key.now) table.old }
     ensures journal { journal.new ≡ when_done (was_removed result) (journal.old ++ record { map = map; key = key.now; old = value_in table.old key.now } ∷ []) journal.old }
 {
-    let old = table.get(key);
+    let gone = table.get(key);
     if journal.is_spent() {
         return Remove::Budget;
     }
-    if old.is_none() {
+    if gone.is_none() {
         return Remove::Absent;
     }
-    journal.note(map, key, old);
+    journal.note(map, key, gone);
     table.remove(key);
     Remove::Done
 }
