@@ -1,0 +1,6 @@
+pub mod Middles
+pub mod Entries
+pub mod Trees
+pub mod Tables
+pub mod Journals
+pub mod Shapes

@@ -1,0 +1,4 @@
+pub mod Mappings
+pub mod Trees
+pub mod Tables
+pub mod Journals

@@ -1,0 +1,23 @@
+//! Maps of programs: finite maps from keys to values of fixed widths, which share one journal of writes.
+//!
+//! A program writes within a run. The run is closed by keeping all its writes or by undoing all of them, and at most 64 may
+//! stand in it. All memory is taken when the maps are made, so no later call asks for any. A look-up, a write, a removal and a
+//! step of a walk take time in the logarithm of the number of entries, and an undo takes as many of these as there were writes.
+//!
+//! It stands on `xb_words` alone. `specs/Mappings` says what the maps, their limits and the answers are, in the words of finite
+//! maps. What stands below it says how they are kept: `specs/Trees` what a search tree holds, `specs/Tables` that a
+//! node is in store for each further entry, and `specs/Journals` that the writes can be taken back.
+#![tactic(auto)]
+
+mod journal;
+mod maps;
+mod node;
+mod shape;
+mod table;
+mod tree;
+
+pub use maps::Maps;
+pub use shape::{MapShape, Put, Remove};
+
+#[cfg(test)]
+mod tests;

@@ -1,0 +1,225 @@
+// The maps of programs, with the journal of a run.
+ghost use Rattle.std.specs.Prelude.{◌≡◌, ◌<◌, ◌≤◌, [], ◌∷◌, ◌++◌, length, None, IsSome, IfSome, IfOk};
+ghost use Rattle.std.specs.Option.{option_map};
+ghost use Rattle.xbgp_maps.specs.Journals.{CanTakeBack, CanTakeAllBack, IsNarrow, taken_back, all_taken_back, restored, was_put, was_removed, when_done};
+ghost use Rattle.xbgp_maps.specs.Mappings.{after_put, after_remove, budget, closed, empty_maps, key_behind, mapping_at, opened, put_answer, put_in, remove_answer, shapes_of, taken_from, value_in, value_of, AreWithinLimits, IsMapping};
+
+use crate::journal::{Change, Journal};
+use crate::shape::{MapShape, Put, Remove};
+use crate::table::Table;
+use std::alloc::{AllocError, Global};
+use std::marker::Model;
+
+/// Finite maps from keys to values of fixed widths, numbered from 0.
+///
+/// Writes and removals stand in a run, which is begun, and then either kept or undone as a whole. All memory is taken when the
+/// maps are made.
+#[derive(Drop)]
+pub struct Maps {
+    tables: Vec<Table>,
+    journal: Journal,
+    is_open: bool,
+}
+
+impl Model for Maps {
+    ghost use Rattle.xbgp_maps.specs.Journals.{seen, IsUndoable};
+    ghost use Rattle.xbgp_maps.specs.Mappings.{Journalled};
+
+    ghost Value = { Journalled };
+
+    ghost view = { λ m. seen m.is_open m.journal m.tables.items };
+
+    ghost invariant = { λ m. IsUndoable m.journal m.tables.items };
+}
+
+fn tables_of(alloc: Global, shapes: &[MapShape]) -> Result<Vec<Table>, AllocError>
+    ensures { IfOk result (λ v. v.items ≡ empty_maps shapes.now) }
+{
+    let mut tables = Vec::with_capacity(alloc, shapes.len())?;
+    'shapes: for shape in shapes {
+        tables.push(Table::make(alloc, *shape)?)?;
+    }
+    Ok(tables)
+}
+
+// Writes into one map, and notes the write.
+fn write(table: &mut Table, journal: &mut Journal, map: u32, key: &[u8], value: &[u8]) -> Put
+    requires key { length key.now ≡ table.old.shape.key }
+    requires value { length value.now ≡ table.old.shape.value }
+    requires narrow { IsNarrow table.old }
+    ensures kept { IsMapping table.old }
+    ensures answer { result ≡ put_answer (length journal.old) table.old key.now }
+    ensures table { table.new ≡ when_done (was_put result) (put_in table.old key.now value.now) table.old }
+    ensures journal { journal.new ≡ when_done (was_put result) (journal.old ++ record { map = map; key = key.now; old = value_in table.old key.now } ∷ []) journal.old }
+{
+    let old = table.get(key);
+    if journal.is_spent() {
+        return Put::Budget;
+    }
+    match old {
+        Some(_) => {
+            journal.note(map, key, old);
+            table.overwrite(key, value);
+            Put::Done
+        }
+        None => {
+            if table.is_full() {
+                return Put::Full;
+            }
+            journal.note(map, key, None);
+            table.insert(key, value);
+            Put::Done
+        }
+    }
+}
+
+// Takes a key out of one map, and notes the removal.
+fn take_out(table: &mut Table, journal: &mut Journal, map: u32, key: &[u8]) -> Remove
+    requires key { length key.now ≡ table.old.shape.key }
+    requires narrow { IsNarrow table.old }
+    ensures kept { IsMapping table.old }
+    ensures answer { result ≡ remove_answer (length journal.old) table.old key.now }
+    ensures table { table.new ≡ when_done (was_removed result) (taken_from table.old key.now) table.old }
+    ensures journal { journal.new ≡ when_done (was_removed result) (journal.old ++ record { map = map; key = key.now; old = value_in table.old key.now } ∷ []) journal.old }
+{
+    let gone = table.get(key);
+    if journal.is_spent() {
+        return Remove::Budget;
+    }
+    if gone.is_none() {
+        return Remove::Absent;
+    }
+    journal.note(map, key, gone);
+    table.remove(key);
+    Remove::Done
+}
+
+// Gives a map back what stood at the key of a write.
+fn restore(table: &mut Table, change: &Change)
+    requires key { length change.now.key ≡ table.old.shape.key }
+    requires value { IfSome change.now.old (λ v. length v ≡ table.old.shape.value) }
+    requires room { IfSome change.now.old (λ v. value_in table.old change.now.key ≡ None → length table.old.entries < table.old.shape.entries) }
+    ensures { table.new ≡ restored table.old change.now.key change.now.old }
+{
+    match change.old() {
+        Some(value) => table.put(change.key(), value),
+        None => table.remove(change.key()),
+    }
+}
+
+fn take_back(tables: &mut Vec<Table>, change: &Change)
+    requires { CanTakeBack change.now tables.old.items }
+    ensures { tables.new.items ≡ taken_back change.now tables.old.items }
+{
+    let table = &mut tables[change.map() as usize];
+    restore(table, change);
+}
+
+// Takes the writes back, from the last to the first.
+fn take_all_back(tables: &mut Vec<Table>, journal: &mut Journal)
+    requires { CanTakeAllBack journal.old tables.old.items }
+    ensures tables { tables.new.items ≡ all_taken_back journal.old tables.old.items }
+    ensures journal { journal.new ≡ [] }
+{
+    'writes: while let Some(change) = journal.last() {
+        take_back(tables, change);
+        journal.forget_last();
+    }
+}
+
+impl Maps {
+    /// Maps of these shapes, without entries. No run is open.
+    pub fn make(alloc: Global, shapes: &[MapShape]) -> Result<Maps, AllocError>
+        requires { AreWithinLimits shapes.now }
+        ensures { IfOk result (λ m. m ≡ closed (empty_maps shapes.now)) }
+    {
+        Ok(Maps {
+            tables: tables_of(alloc, shapes)?,
+            journal: Journal::make(alloc)?,
+            is_open: false,
+        })
+    }
+
+    /// The value at a key.
+    pub fn get(&self, map: u32, key: &[u8]) -> Option<&[u8]>
+        requires map { map < length self.now.maps }
+        requires key { IfSome (mapping_at self.now.maps map) (λ m. length key.now ≡ m.shape.key) }
+        ensures value { option_map (λ v. v.now) result ≡ value_of self.now.maps map key.now }
+        ensures kept { IfSome (mapping_at self.now.maps map) IsMapping }
+    {
+        self.tables[map as usize].get(key)
+    }
+
+    /// Writes a value at a key.
+    pub fn put(&mut self, map: u32, key: &[u8], value: &[u8]) -> Put
+        requires map { map < length self.old.maps }
+        requires key { IfSome (mapping_at self.old.maps map) (λ m. length key.now ≡ m.shape.key) }
+        requires value { IfSome (mapping_at self.old.maps map) (λ m. length value.now ≡ m.shape.value) }
+        requires open { IsSome self.old.began }
+        ensures answer { IfSome (mapping_at self.old.maps map) (λ m. result ≡ put_answer self.old.writes m key.now) }
+        ensures after { IfSome (mapping_at self.old.maps map) (λ m. self.new ≡ after_put self.old map m key.now value.now result) }
+        ensures began { self.new.began ≡ self.old.began }
+        ensures shapes { shapes_of self.new.maps ≡ shapes_of self.old.maps }
+    {
+        let table = &mut self.tables[map as usize];
+        write(table, &mut self.journal, map, key, value)
+    }
+
+    /// Takes a key out.
+    pub fn remove(&mut self, map: u32, key: &[u8]) -> Remove
+        requires map { map < length self.old.maps }
+        requires key { IfSome (mapping_at self.old.maps map) (λ m. length key.now ≡ m.shape.key) }
+        requires open { IsSome self.old.began }
+        ensures answer { IfSome (mapping_at self.old.maps map) (λ m. result ≡ remove_answer self.old.writes m key.now) }
+        ensures after { IfSome (mapping_at self.old.maps map) (λ m. self.new ≡ after_remove self.old map m key.now result) }
+        ensures began { self.new.began ≡ self.old.began }
+        ensures shapes { shapes_of self.new.maps ≡ shapes_of self.old.maps }
+    {
+        let table = &mut self.tables[map as usize];
+        take_out(table, &mut self.journal, map, key)
+    }
+
+    /// Opens a run.
+    pub fn begin(&mut self)
+        requires { self.old.began ≡ None }
+        ensures { self.new ≡ opened self.old.maps }
+    {
+        self.journal.clear();
+        self.is_open = true;
+    }
+
+    /// Closes the run and keeps its writes.
+    pub fn commit(&mut self)
+        requires { IsSome self.old.began }
+        ensures { self.new ≡ closed self.old.maps }
+    {
+        self.is_open = false;
+    }
+
+    /// Closes the run and gives back the maps as at its begin.
+    pub fn undo(&mut self)
+        requires { IsSome self.old.began }
+        ensures undone { IfSome self.old.began (λ began. self.new ≡ closed began) }
+        ensures shapes { shapes_of self.new.maps ≡ shapes_of self.old.maps }
+    {
+        take_all_back(&mut self.tables, &mut self.journal);
+        self.is_open = false;
+    }
+
+    /// How many writes stand in the journal of the run.
+    pub fn writes(&self) -> u32
+        requires { IsSome self.now.began }
+        ensures value { result ≡ self.now.writes }
+        ensures bound { result ≤ budget }
+    {
+        self.journal.len() as u32
+    }
+
+    /// The first key behind a key, by the order of octets, or the first of all. There is none in a map that does not exist.
+    pub fn key_after(&self, map: u32, after: Option<&[u8]>) -> Option<&[u8]>
+        ensures key { option_map (λ k. k.now) result ≡ key_behind self.now.maps map (option_map (λ k. k.now) after.entry) }
+        ensures kept { IfSome (mapping_at self.now.maps map) IsMapping }
+    {
+        self.tables.get(map as usize)?.key_after(after)
+    }
+}

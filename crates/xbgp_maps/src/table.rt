@@ -1,0 +1,151 @@
+// One map: a tree of its entries, and nodes for all entries that it may have more.
+ghost use Rattle.std.specs.Prelude.{◌≡◌, ◌<◌, ◌≤◌, [], ◌∷◌, ◌++◌, length, map, nat_le, vec_capacity, None, IsSome, IfOk};
+ghost use Rattle.std.specs.List.{AllByRecursion};
+ghost use Rattle.std.specs.Option.{option_map};
+ghost use Rattle.xb_words.specs.Table.{entry_after};
+ghost use Rattle.xbgp_maps.specs.Mappings.{key_cmp, value_in, put_in, taken_from, IsMapping};
+ghost use Rattle.xbgp_maps.specs.Tables.{IsBlank};
+ghost use Rattle.xbgp_maps.specs.Trees.{IsAlone};
+
+use crate::node::{Node, Tree};
+use crate::shape::MapShape;
+use crate::tree::{copy_over, find, first, first_after, insert, overwrite, remove};
+use std::alloc::{AllocError, Global};
+use std::marker::Model;
+
+#[derive(Drop)]
+pub struct Table {
+    shape: MapShape,
+    root: Tree,
+    spare: Vec<Box<Node>>,
+}
+
+impl Model for Table {
+    ghost use Rattle.std.specs.Prelude.{map, vec_capacity};
+    ghost use Rattle.xbgp_maps.specs.Mappings.{Mapping};
+    ghost use Rattle.xbgp_maps.specs.Tables.{IsTable};
+    ghost use Rattle.xbgp_maps.specs.Trees.{entries_of};
+
+    ghost Value = { Mapping };
+
+    ghost view = { λ t. record { shape = t.shape; entries = entries_of t.root } };
+
+    ghost invariant = { λ t. IsTable (record { shape = t.shape; entries = entries_of t.root }) (map (λ n. n.value) t.spare.items) (vec_capacity t.spare) };
+}
+
+// Nodes for all entries of a map.
+fn blanks(alloc: Global, shape: MapShape) -> Result<Vec<Box<Node>>, AllocError>
+    ensures count { IfOk result (λ v. length v.items ≡ shape.entries) }
+    ensures capacity { IfOk result (λ v. shape.entries ≤ vec_capacity v) }
+    ensures blank { IfOk result (λ v. AllByRecursion (IsBlank shape) (map (λ n. n.value) v.items)) }
+{
+    let mut nodes = Vec::with_capacity(alloc, shape.entries as usize)?;
+    'nodes: for _ in 0..shape.entries {
+        let node = Node::blank(alloc, shape.key as usize, shape.value as usize)?;
+        nodes.push(node)?;
+    }
+    Ok(nodes)
+}
+
+// The node with a key and a value of its own widths.
+fn filled(mut node: Box<Node>, key: &[u8], value: &[u8]) -> Box<Node>
+    requires key { length node.value.key.items ≡ length key.now }
+    requires value { length node.value.value.items ≡ length value.now }
+    requires alone { IsAlone node.value }
+    ensures key { result.value.key.items ≡ key.now }
+    ensures value { result.value.value.items ≡ value.now }
+    ensures alone { IsAlone result.value }
+{
+    copy_over(&mut node.key, key);
+    copy_over(&mut node.value, value);
+    node
+}
+
+// Keeps one node more, for which there is room.
+fn keep(spare: &mut Vec<Box<Node>>, node: Box<Node>)
+    requires { length spare.old.items < vec_capacity spare.old }
+    ensures items { spare.new.items ≡ spare.old.items ++ node ∷ [] }
+    ensures capacity { vec_capacity spare.old ≤ vec_capacity spare.new }
+{
+    let _ = spare.push(node);
+}
+
+impl Table {
+    pub fn make(alloc: Global, shape: MapShape) -> Result<Table, AllocError>
+        ensures { IfOk result (λ t. t ≡ record { shape = shape; entries = [] }) }
+    {
+        Ok(Table {
+            shape,
+            root: Tree::Leaf,
+            spare: blanks(alloc, shape)?,
+        })
+    }
+
+    pub fn get(&self, key: &[u8]) -> Option<&[u8]>
+        ensures value { option_map (λ v. v.now) result ≡ value_in self.now key.now }
+        ensures kept { IsMapping self.now }
+    {
+        find(&self.root, key)
+    }
+
+    /// Whether there is no room for a new key.
+    pub fn is_full(&self) -> bool
+        ensures { result ≡ nat_le self.now.shape.entries (length self.now.entries) }
+    {
+        self.spare.is_empty()
+    }
+
+    /// Writes over a value that is there.
+    pub fn overwrite(&mut self, key: &[u8], value: &[u8])
+        requires there { IsSome (value_in self.old key.now) }
+        requires width { length value.now ≡ self.old.shape.value }
+        ensures { self.new ≡ put_in self.old key.now value.now }
+    {
+        overwrite(&mut self.root, key, value);
+    }
+
+    /// Enters a new key.
+    pub fn insert(&mut self, key: &[u8], value: &[u8])
+        requires absent { value_in self.old key.now ≡ None }
+        requires room { length self.old.entries < self.old.shape.entries }
+        requires key { length key.now ≡ self.old.shape.key }
+        requires value { length value.now ≡ self.old.shape.value }
+        ensures { self.new ≡ put_in self.old key.now value.now }
+    {
+        if let Some(node) = self.spare.pop() {
+            insert(&mut self.root, filled(node, key, value));
+        }
+    }
+
+    /// Enters a value, whether or not the key is there.
+    pub fn put(&mut self, key: &[u8], value: &[u8])
+        requires room { value_in self.old key.now ≡ None → length self.old.entries < self.old.shape.entries }
+        requires key { length key.now ≡ self.old.shape.key }
+        requires value { length value.now ≡ self.old.shape.value }
+        ensures { self.new ≡ put_in self.old key.now value.now }
+    {
+        if self.get(key).is_some() {
+            self.overwrite(key, value);
+        } else {
+            self.insert(key, value);
+        }
+    }
+
+    pub fn remove(&mut self, key: &[u8])
+        ensures { self.new ≡ taken_from self.old key.now }
+    {
+        if let Some(node) = remove(&mut self.root, key) {
+            keep(&mut self.spare, node);
+        }
+    }
+
+    pub fn key_after(&self, after: Option<&[u8]>) -> Option<&[u8]>
+        ensures key { option_map (λ k. k.now) result ≡ option_map (λ e. e.0) (entry_after key_cmp self.now.entries (option_map (λ k. k.now) after.entry)) }
+        ensures kept { IsMapping self.now }
+    {
+        match after {
+            None => first(&self.root),
+            Some(key) => first_after(&self.root, key),
+        }
+    }
+}

@@ -1,0 +1,198 @@
+// A search tree of entries by rising key: look-ups, writes and removals, each by one way down.
+ghost use Rattle.std.specs.Prelude.{◌≡◌, ◌∷◌, ◌++◌, length, None, Some, IsSome};
+ghost use Rattle.std.specs.Option.{option_map};
+ghost use Rattle.xb_words.specs.Table.{entry_after, first as first_entry, value_at, with_value, without, IsRising};
+ghost use Rattle.xbgp_maps.specs.Mappings.{key_cmp};
+ghost use Rattle.xbgp_maps.specs.Trees.{entries_of, entries_below, entry_of, HaveWidth, IsAlone, IsTaken};
+
+use crate::node::{Node, Tree, balanced};
+use std::cmp::Ordering;
+
+/// The value at a key.
+#[tactic(auto, using(crate::proofs::Trees::smaller_left, crate::proofs::Trees::smaller_right, crate::proofs::Trees::left_rises, crate::proofs::Trees::right_rises, crate::proofs::Trees::value_left, crate::proofs::Trees::value_here, crate::proofs::Trees::value_right))]
+pub fn find<'t>(tree: &'t Tree, key: &[u8]) -> Option<&'t [u8]>
+    requires { IsRising key_cmp (entries_of tree.now) }
+    ensures { option_map (λ v. v.now) result ≡ value_at key_cmp (entries_of tree.now) key.now }
+{
+    match tree {
+        Tree::Leaf => None,
+        Tree::Fork(node) => {
+            let node = &**node;
+            match key.cmp(&node.key.as_slice()) {
+                Ordering::Less => find(&node.left, key),
+                Ordering::Greater => find(&node.right, key),
+                Ordering::Equal => Some(node.value.as_slice()),
+            }
+        }
+    }
+}
+
+/// The least key.
+#[tactic(auto, using(crate::proofs::Trees::smaller_left, crate::proofs::Trees::first_below))]
+pub fn first(tree: &Tree) -> Option<&[u8]>
+    ensures { option_map (λ k. k.now) result ≡ option_map (λ e. e.0) (first_entry (entries_of tree.now)) }
+{
+    match tree {
+        Tree::Leaf => None,
+        Tree::Fork(node) => {
+            let node = &**node;
+            match first(&node.left) {
+                None => Some(node.key.as_slice()),
+                found => found,
+            }
+        }
+    }
+}
+
+/// The least key that is greater than this one.
+#[tactic(auto, using(crate::proofs::Trees::smaller_left, crate::proofs::Trees::smaller_right, crate::proofs::Trees::left_rises, crate::proofs::Trees::right_rises, crate::proofs::Trees::after_left, crate::proofs::Trees::after_here, crate::proofs::Trees::after_right))]
+pub fn first_after<'t>(tree: &'t Tree, key: &[u8]) -> Option<&'t [u8]>
+    requires { IsRising key_cmp (entries_of tree.now) }
+    ensures { option_map (λ k. k.now) result ≡ option_map (λ e. e.0) (entry_after key_cmp (entries_of tree.now) (Some key.now)) }
+{
+    match tree {
+        Tree::Leaf => None,
+        Tree::Fork(node) => {
+            let node = &**node;
+            match key.cmp(&node.key.as_slice()) {
+                Ordering::Less => match first_after(&node.left, key) {
+                    None => Some(node.key.as_slice()),
+                    found => found,
+                },
+                _ => first_after(&node.right, key),
+            }
+        }
+    }
+}
+
+/// Puts octets in the place of as many.
+pub fn copy_over(place: &mut Vec<u8>, octets: &[u8])
+    requires { length place.old.items ≡ length octets.now }
+    ensures { place.new.items ≡ octets.now }
+{
+    place.as_mut_slice().copy_from_slice(octets);
+}
+
+/// Writes over the value at a key that is there.
+#[tactic(auto, using(crate::proofs::Trees::smaller_left, crate::proofs::Trees::smaller_right, crate::proofs::Trees::left_rises, crate::proofs::Trees::right_rises, crate::proofs::Trees::values_left, crate::proofs::Trees::values_right, crate::proofs::Trees::values_here, crate::proofs::Trees::value_left, crate::proofs::Trees::value_right, crate::proofs::Trees::with_left, crate::proofs::Trees::with_here, crate::proofs::Trees::with_right))]
+pub fn overwrite(tree: &mut Tree, key: &[u8], value: &[u8])
+    requires rising { IsRising key_cmp (entries_of tree.old) }
+    requires widths { HaveWidth (length value.now) (entries_of tree.old) }
+    requires there { IsSome (value_at key_cmp (entries_of tree.old) key.now) }
+    ensures { entries_of tree.new ≡ with_value key_cmp (entries_of tree.old) key.now value.now }
+{
+    if let Tree::Fork(node) = tree {
+        let node = &mut **node;
+        match key.cmp(&node.key.as_slice()) {
+            Ordering::Less => overwrite(&mut node.left, key, value),
+            Ordering::Greater => overwrite(&mut node.right, key, value),
+            Ordering::Equal => copy_over(&mut node.value, value),
+        }
+    }
+}
+
+#[tactic(auto, using(crate::proofs::Trees::smaller_left, crate::proofs::Trees::smaller_right, crate::proofs::Trees::left_rises, crate::proofs::Trees::right_rises, crate::proofs::Trees::value_left, crate::proofs::Trees::value_here, crate::proofs::Trees::value_right, crate::proofs::Trees::with_left, crate::proofs::Trees::with_right))]
+fn with_node(tree: Tree, new: Box<Node>) -> Tree
+    requires rising { IsRising key_cmp (entries_of tree) }
+    requires alone { IsAlone new.value }
+    requires absent { value_at key_cmp (entries_of tree) new.value.key.items ≡ None }
+    ensures { entries_of result ≡ with_value key_cmp (entries_of tree) new.value.key.items new.value.value.items }
+{
+    match tree {
+        Tree::Leaf => Tree::Fork(new),
+        Tree::Fork(mut node) => {
+            match new.key.as_slice().cmp(&node.key.as_slice()) {
+                Ordering::Less => {
+                    node.left = with_node(node.left.take(), new);
+                    Tree::Fork(balanced(node))
+                }
+                _ => {
+                    node.right = with_node(node.right.take(), new);
+                    Tree::Fork(balanced(node))
+                }
+            }
+        }
+    }
+}
+
+/// Puts in a node that is alone, at a key that is not there.
+pub fn insert(tree: &mut Tree, new: Box<Node>)
+    requires rising { IsRising key_cmp (entries_of tree.old) }
+    requires alone { IsAlone new.value }
+    requires absent { value_at key_cmp (entries_of tree.old) new.value.key.items ≡ None }
+    ensures { entries_of tree.new ≡ with_value key_cmp (entries_of tree.old) new.value.key.items new.value.value.items }
+{
+    *tree = with_node(tree.take(), new);
+}
+
+// Takes the node of the least key out, which then is alone.
+fn without_least(mut top: Box<Node>) -> (Box<Node>, Tree)
+    ensures entries { entries_below top.value ≡ entry_of result.0.value ∷ entries_of result.1 }
+    ensures alone { IsAlone result.0.value }
+{
+    match top.left.take() {
+        Tree::Leaf => {
+            let rest = top.right.take();
+            (top, rest)
+        }
+        Tree::Fork(left) => {
+            let (least, rest) = without_least(left);
+            top.left = rest;
+            (least, Tree::Fork(balanced(top)))
+        }
+    }
+}
+
+// One tree of two, where all keys of the first are below those of the second.
+fn joined(left: Tree, right: Tree) -> Tree
+    ensures { entries_of result ≡ entries_of left ++ entries_of right }
+{
+    match right {
+        Tree::Leaf => left,
+        Tree::Fork(node) => {
+            let (mut top, rest) = without_least(node);
+            top.left = left;
+            top.right = rest;
+            Tree::Fork(balanced(top))
+        }
+    }
+}
+
+#[tactic(auto, using(crate::proofs::Trees::smaller_left, crate::proofs::Trees::smaller_right, crate::proofs::Trees::left_rises, crate::proofs::Trees::right_rises, crate::proofs::Trees::value_left, crate::proofs::Trees::value_here, crate::proofs::Trees::value_right, crate::proofs::Trees::without_left, crate::proofs::Trees::without_here, crate::proofs::Trees::without_right, crate::proofs::Trees::same_key))]
+fn without_node(tree: Tree, key: &[u8]) -> (Tree, Option<Box<Node>>)
+    requires { IsRising key_cmp (entries_of tree) }
+    ensures entries { entries_of result.0 ≡ without key_cmp (entries_of tree) key.now }
+    ensures taken { IsTaken (entries_of tree) key.now (option_map (λ n. n.value) result.1) }
+{
+    match tree {
+        Tree::Leaf => (Tree::Leaf, None),
+        Tree::Fork(mut node) => match key.cmp(&node.key.as_slice()) {
+            Ordering::Less => {
+                let (rest, taken) = without_node(node.left.take(), key);
+                node.left = rest;
+                (Tree::Fork(balanced(node)), taken)
+            }
+            Ordering::Greater => {
+                let (rest, taken) = without_node(node.right.take(), key);
+                node.right = rest;
+                (Tree::Fork(balanced(node)), taken)
+            }
+            Ordering::Equal => {
+                let left = node.left.take();
+                let right = node.right.take();
+                (joined(left, right), Some(node))
+            }
+        },
+    }
+}
+
+/// Takes the node at a key out, if there is one; then it is alone.
+pub fn remove(tree: &mut Tree, key: &[u8]) -> Option<Box<Node>>
+    requires { IsRising key_cmp (entries_of tree.old) }
+    ensures entries { entries_of tree.new ≡ without key_cmp (entries_of tree.old) key.now }
+    ensures taken { IsTaken (entries_of tree.old) key.now (option_map (λ n. n.value) result) }
+{
+    let (rest, taken) = without_node(tree.take(), key);
+    *tree = rest;
+    taken
+}
