@@ -11,7 +11,7 @@ use Rattle.bpf_insn.specs.Slots.{slots, opcode_of, dst_of, src_of, raw_offset, r
 use Rattle.bpf_insn.specs.Forms.{is_opcode, are_fields, jumps, writes_register, is_call, is_exit, is_ja}
 use Rattle.bpf_insn.specs.Loading.{is_second, begins, numbers_from, starts, last_start, has_second, target, is_start, slot_fault, fault_at, first_fault, end_fault, load_fault}
 use Rattle.bpf_insn.specs.Seconds.{AreSeconds}
-use Rattle.bpf_insn.specs.Sound.{every, IsAccepted, slot_behind, IsSound}
+use Rattle.bpf_insn.specs.Sound.{every, IsAccepted, slot_behind, IsSound, CallsOnly}
 use Rattle.bpf_insn.proofs.Starts.{second-next}
 
 -- a check that finds nothing passes, and so do those behind it
@@ -219,6 +219,13 @@ call-allowed allowed code h i b call =
     let inside : i < slots code = ltb-true i (slots code) parts.0 in
     let p = passes allowed code i (none-at allowed code (slots code) 0 i f.each (omega arith) (omega arith) (not-true _ parts.1)) in
     not-false _ (second-false _ _ p.call call)
+
+pub calls_only : (allowed : ℕ → Bool) (code : List ℕ) → load_fault allowed code ≡ None → CallsOnly allowed code
+calls_only allowed code h = record { each = λ i b call. call-allowed allowed code h i b call }
+
+-- worlds that allow the same helpers
+pub calls_only_same : (a b : ℕ → Bool) (code : List ℕ) → ((n : ℕ) → a n ≡ b n) → CallsOnly a code → CallsOnly b code
+calls_only_same a b code same calls = record { each = λ i begin call. sym (same (raw_imm code i)) ∙ calls.each i begin call }
 
 -- the same helpers give the same fault
 slot-same : (a b : ℕ → Bool) → ((n : ℕ) → a n ≡ b n) → (code : List ℕ) (i : ℕ) → slot_fault a code i ≡ slot_fault b code i

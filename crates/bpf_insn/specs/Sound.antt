@@ -1,7 +1,7 @@
 -- What the loader leaves to rely on: accepted code stays inside.
 use Rattle.std.specs.Prelude.{◌≡◌, ◌≢◌, ℕ, ◌+◌, ◌*◌, ◌≤◌, Bool, true, List, length, None, IsTrue, if◌then◌else◌}
 use Rattle.bpf_insn.specs.Slots.{slots, opcode_of, dst_of, src_of, raw_offset, raw_imm, is_wide}
-use Rattle.bpf_insn.specs.Forms.{is_opcode, are_fields, jumps, writes_register, is_exit, is_ja}
+use Rattle.bpf_insn.specs.Forms.{is_opcode, are_fields, jumps, writes_register, is_call, is_exit, is_ja}
 use Rattle.bpf_insn.specs.Loading.{begins, has_second, is_start, target, load_fault}
 
 -- every helper may be called
@@ -30,3 +30,7 @@ pub record IsSound (code : List ℕ) (i : ℕ) : Type 0 where
   pub jump : IsTrue (jumps (opcode_of code i)) → IsTrue (is_start code (target code i))
   pub write : IsTrue (writes_register (opcode_of code i)) → dst_of code i ≢ 10
   pub behind : ¬ IsTrue (is_exit (opcode_of code i)) → ¬ IsTrue (is_ja (opcode_of code i)) → IsTrue (begins code (slot_behind code i))
+
+-- code calls no helpers but those that are allowed
+pub record CallsOnly (allowed : ℕ → Bool) (code : List ℕ) : Type 0 where
+  pub each : (i : ℕ) → IsTrue (begins code i) → IsTrue (is_call (opcode_of code i)) → IsTrue (allowed (raw_imm code i))

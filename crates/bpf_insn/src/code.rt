@@ -3,7 +3,7 @@ ghost use Rattle.std.specs.Prelude.{◌≡◌, ◌<◌, ◌%◌, ◌^◌, None, 
 ghost use Rattle.bpf_insn.specs.Helpers.{allows};
 ghost use Rattle.bpf_insn.specs.Slots.{slots, slot_of, raw_imm, insn_at};
 ghost use Rattle.bpf_insn.specs.Loading.{begins, load_fault};
-ghost use Rattle.bpf_insn.specs.Sound.{IsAccepted, IsSound};
+ghost use Rattle.bpf_insn.specs.Sound.{IsAccepted, IsSound, CallsOnly};
 
 use crate::checks::load_fault;
 use crate::fault::{LoadError, LoadFault};
@@ -35,6 +35,7 @@ impl Model for Code {
 pub fn load(alloc: Global, bytes: &[u8], allowed: &HelperSet) -> Result<Code, LoadError>
     ensures octets { IfOk result (λ code. code ≡ bytes.now) }
     ensures good { IfOk result (λ code. load_fault (allows allowed.now) bytes.now ≡ None) }
+    ensures calls { IfOk result (λ code. CallsOnly (allows allowed.now) code) }
     ensures bad { (fault : LoadFault) → IsErrOf result (LoadError.Bad fault) → load_fault (allows allowed.now) bytes.now ≡ Some fault }
 {
     if let Some(fault) = load_fault(alloc, bytes, allowed)? {

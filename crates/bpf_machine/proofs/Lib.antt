@@ -2,3 +2,4 @@ pub mod Signs
 pub mod Stepping
 pub mod Following
 pub mod Turns
+mod Rows

@@ -20,11 +20,11 @@ computed-64 i x y c code offset r c_is seven code_is ordinary offset_is x_in y_i
     let second : y % 2 ^ 64 ≡ y = mod-eq_of_lt y_in in
     rw (eq-eqb (class i.opcode) 7 (sym c_is ∙ seven), ← code_is, ne_eqb code 13 ordinary, ← offset_is, first, second) r_is
 
-pub computed-32 : (i : Insn) (x y c code offset xl yl r : ℕ) → c ≡ class i.opcode → c ≢ 7 → code ≡ code_of i.opcode → code ≢ 13 → offset ≡ word i.offset → xl ≡ low 32 x → yl ≡ low 32 y
-    → r ≡ result_of 32 code offset xl yl → r ≡ computed i x y
+pub computed-32 : (i : Insn) (x y c code offset r : ℕ) → c ≡ class i.opcode → c ≢ 7 → code ≡ code_of i.opcode → code ≢ 13 → offset ≡ word i.offset
+    → r ≡ result_of 32 code offset (low 32 x) (low 32 y) → r ≡ computed i x y
 unfolding computed
-computed-32 i x y c code offset xl yl r c_is other code_is ordinary offset_is x_is y_is r_is =
-    rw (ne_eqb (class i.opcode) 7 (λ e. other (c_is ∙ e)), ← code_is, ne_eqb code 13 ordinary, ← offset_is, ← x_is, ← y_is) r_is
+computed-32 i x y c code offset r c_is other code_is ordinary offset_is r_is =
+    rw (ne_eqb (class i.opcode) 7 (λ e. other (c_is ∙ e)), ← code_is, ne_eqb code 13 ordinary, ← offset_is) r_is
 
 pub does_the_same : (d e : Did) (s : Step) (before after : List ℕ) (old new : Memory) → e ≡ d → Does d s before after old new → Does e s before after old new
 does_the_same d e s before after old new same h = subst (λ (x : Did). Does x s before after old new) (sym same) h

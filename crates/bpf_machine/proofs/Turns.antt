@@ -4,7 +4,7 @@ use Rattle.std.specs.Prelude.{IsTrue}
 use Rattle.bpf_mem.specs.Memory.{Memory}
 use Rattle.bpf_insn.specs.Slots.{raw_imm, insn_at}
 use Rattle.bpf_insn.specs.Loading.{begins}
-use Rattle.bpf_insn.specs.Sound.{IsAccepted, IsSound}
+use Rattle.bpf_insn.specs.Sound.{IsAccepted, IsSound, CallsOnly}
 use Rattle.bpf_machine.specs.declared.world.Cause.TheVariants as causes
 use Rattle.bpf_machine.specs.declared.world.End.{End}
 use Rattle.bpf_machine.specs.declared.world.End.TheVariants.{Exit, Next, Failed}
@@ -14,7 +14,7 @@ use Rattle.bpf_machine.specs.declared.step.Step.TheVariants as steps
 use Rattle.bpf_machine.specs.Words.{low}
 use Rattle.bpf_machine.specs.Steps.{Did, goes, ends, faults, asks, arguments, insn, entry, returned}
 use Rattle.bpf_machine.specs.Does.{Does, machine}
-use Rattle.bpf_machine.specs.Running.{Answered, Ended, Helps, answered, goes_on, turns, bpf, CallsOnly}
+use Rattle.bpf_machine.specs.Running.{Answered, Ended, Helps, answered, goes_on, turns, bpf}
 use Rattle.bpf_machine.proofs.Following.{Follows, follows}
 
 abbrev pub ended : {W : Type 0} → End → Memory → W → Ended W

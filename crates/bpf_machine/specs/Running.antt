@@ -1,9 +1,6 @@
 -- A run of a program: instructions until it ends, as long as there is fuel. Fuel, helpers and the causes are this project's own.
-use Rattle.std.specs.Prelude.{ℕ, zero, suc, Bool, List, IsTrue}
+use Rattle.std.specs.Prelude.{ℕ, zero, suc, List}
 use Rattle.bpf_mem.specs.Memory.{Memory}
-use Rattle.bpf_insn.specs.Slots.{opcode_of, raw_imm}
-use Rattle.bpf_insn.specs.Forms.{is_call}
-use Rattle.bpf_insn.specs.Loading.{begins}
 use Rattle.bpf_machine.specs.declared.world.Cause.TheVariants as causes
 use Rattle.bpf_machine.specs.declared.world.End.{End}
 use Rattle.bpf_machine.specs.declared.world.End.TheVariants.{Exit, Next, Failed}
@@ -49,7 +46,3 @@ module _ {W : Type 0} (help : Helps W) (code : List ℕ) where
   -- the whole run
   unfoldable pub bpf : Memory → ℕ → W → Ended W
   bpf memory fuel w = turns fuel (entry memory) w
-
--- code calls no helpers but those that are allowed
-pub record CallsOnly (allowed : ℕ → Bool) (code : List ℕ) : Type 0 where
-  pub each : (i : ℕ) → IsTrue (begins code i) → IsTrue (is_call (opcode_of code i)) → IsTrue (allowed (raw_imm code i))

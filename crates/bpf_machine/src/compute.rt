@@ -1,7 +1,7 @@
 // What arithmetic gives, and which comparisons hold.
 ghost use Rattle.std.specs.Prelude.{◌≡◌};
 ghost use Rattle.bpf_mem.specs.Memory.{IsSize};
-ghost use Rattle.bpf_machine.specs.Words.{moved, result_of, holds, converted};
+ghost use Rattle.bpf_machine.specs.Words.{low, moved, result_of, holds, converted};
 ghost use Rattle.bpf_machine.specs.Steps.{computed, is_taken, size_of, loaded};
 
 use crate::words::{
@@ -147,6 +147,13 @@ fn converted(opcode: u8, bits: u32, x: u64) -> u64
     }
 }
 
+/// What an operation gives of the low 32 bits, in 64.
+fn result_low(code: u8, offset: u64, x: u64, y: u64) -> u64
+    ensures { result ≡ result_of 32 code offset (low 32 x) (low 32 y) }
+{
+    u64::from(result_32(code, offset, low_32(x), low_32(y)))
+}
+
 /// What arithmetic gives its destination, from what that has and the second operand.
 #[tactic(auto, unfolding(crate::specs::Steps::computed))]
 pub(crate) fn computed(insn: Insn, x: u64, y: u64) -> u64
@@ -160,7 +167,7 @@ pub(crate) fn computed(insn: Insn, x: u64, y: u64) -> u64
     if class(insn.opcode) == 7 {
         result_64(code, offset, x, y)
     } else {
-        u64::from(result_32(code, offset, low_32(x), low_32(y)))
+        result_low(code, offset, x, y)
     }
 }
 

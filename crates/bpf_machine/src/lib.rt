@@ -17,3 +17,6 @@ mod world;
 
 pub use running::run;
 pub use world::{Called, Cause, End, Helpers};
+
+#[cfg(test)]
+mod tests;

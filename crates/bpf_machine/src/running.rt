@@ -1,9 +1,10 @@
 // A run of a program.
 ghost use Rattle.std.specs.Prelude.{◌≡◌, ◌≢◌, ℕ};
 ghost use Rattle.bpf_mem.specs.Memory.{Memory};
+ghost use Rattle.bpf_insn.specs.Sound.{CallsOnly};
 ghost use Rattle.bpf_machine.specs.Steps.{entry, returned};
 ghost use Rattle.bpf_machine.specs.Does.{machine};
-ghost use Rattle.bpf_machine.specs.Running.{bpf, CallsOnly};
+ghost use Rattle.bpf_machine.specs.Running.{bpf};
 
 use crate::step::{Step, take_step};
 use crate::world::{Called, Cause, End, Helpers};

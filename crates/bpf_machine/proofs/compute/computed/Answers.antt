@@ -1,4 +1,3 @@
-use Rattle.std.proofs.Common.{◌∙◌}
 use Rattle.bpf_machine.proofs.Stepping.{computed-64, computed-32}
 use Rattle.bpf_machine.proofs.compute.computed.Goals as goal
 
@@ -9,5 +8,5 @@ returns-then-class-eq7 c =
 
 pub returns-else-class-eq7 : goal.returns-else-class-eq7
 returns-else-class-eq7 c =
-    computed-32 c.args.insn c.args.x c.args.y c.class.result c.code_of-code.result c.offset_word-offset.result c.low_32-else-class-eq7.result c.low_32-else-class-eq7-2.result c.from.result
-    c.class.ensures c.if-class-eq7.false c.code_of-code.ensures c.if-code-eq13.false c.offset_word-offset.ensures c.low_32-else-class-eq7.ensures c.low_32-else-class-eq7-2.ensures (c.from.ensures ∙ c.result_32.ensures)
+    computed-32 c.args.insn c.args.x c.args.y c.class.result c.code_of-code.result c.offset_word-offset.result c.result_low.result
+    c.class.ensures c.if-class-eq7.false c.code_of-code.ensures c.if-code-eq13.false c.offset_word-offset.ensures c.result_low.ensures
