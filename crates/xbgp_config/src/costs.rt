@@ -1,5 +1,5 @@
 // The interior costs of next hops.
-ghost use Rattle.std.specs.Prelude.{◌≡◌, ◌≤◌, length, map};
+ghost use Rattle.std.specs.Prelude.{◌≡◌, ◌<◌, ◌-◌, ◌^◌, length, map};
 ghost use Rattle.toml.specs.View.{view};
 ghost use Rattle.xb_fields.specs.Fields.{entries};
 ghost use Rattle.xb_fields.specs.Outcomes.{Gives};
@@ -29,7 +29,7 @@ fn cost_fields(index: u32, value: &Value) -> Result<CostEntry, Bad>
 
 /// Reads the costs, one for each next hop.
 pub fn read_costs(alloc: Global, values: &[Value]) -> Result<Costs, FieldError>
-    requires { length values.now ≤ 1024 }
+    requires { length values.now < 2 ^ 32 - 1 }
     ensures { Gives result (entries cost_entry (map view values.now)) }
 {
     let mut seen = BTreeSet::new(alloc);

@@ -1,5 +1,5 @@
 // The networks of the speaker.
-ghost use Rattle.std.specs.Prelude.{◌≡◌, ◌≤◌, length, map};
+ghost use Rattle.std.specs.Prelude.{◌≡◌, ◌<◌, ◌-◌, ◌^◌, length, map};
 ghost use Rattle.toml.specs.View.{view};
 ghost use Rattle.xb_base.specs.Readers.{read_prefix};
 ghost use Rattle.xb_fields.specs.Fields.{text, entries};
@@ -22,7 +22,7 @@ fn network(at: Place, value: &Value) -> Result<Prefix, Bad>
 
 /// Reads the networks, each one once.
 pub fn read_networks(alloc: Global, values: &[Value]) -> Result<Networks, FieldError>
-    requires { length values.now ≤ 1024 }
+    requires { length values.now < 2 ^ 32 - 1 }
     ensures { Gives result (entries network_entry (map view values.now)) }
 {
     let mut seen = BTreeSet::new(alloc);

@@ -1,5 +1,5 @@
 // The peers.
-ghost use Rattle.std.specs.Prelude.{◌≡◌, ◌≤◌, length, map, ◌==◌, ◌||◌, not};
+ghost use Rattle.std.specs.Prelude.{◌≡◌, ◌<◌, ◌-◌, ◌^◌, length, map, ◌==◌, ◌||◌, not};
 ghost use Rattle.std.specs.List.{list_any};
 ghost use Rattle.toml.specs.View.{view};
 ghost use Rattle.xb_fields.specs.Fields.{entries};
@@ -55,7 +55,7 @@ fn read_peer(own: u32, index: u32, earlier: &[PeerEntry], value: &Value) -> Resu
 
 /// Reads the peers of a speaker that has an address of its own.
 pub fn read_peers(alloc: Global, own: u32, values: &[Value]) -> Result<Peers, FieldError>
-    requires { length values.now ≤ 64 }
+    requires { length values.now < 2 ^ 32 - 1 }
     ensures { Gives result (entries (peer_entry own) (map view values.now)) }
 {
     let mut items = Vec::new(alloc);
