@@ -3,6 +3,7 @@ use std::alloc::Global;
 use std::test::Fail;
 use xb_base::{BadKind, MemShelf, MemSink, Part};
 use xbgp_config::ConfigFault;
+use xbgp_manifest::ManifestFault;
 use xbgp_top::{File, Status, run};
 
 // The attributes of a route by AS 65001 with next hop 192.0.2.1.
@@ -33,15 +34,18 @@ fn zeros(alloc: Global, count: usize) -> Result<Vec<u8>, Fail> {
     Ok(vec![in alloc; 0u8; count]?)
 }
 
-// What words answer over a shelf that holds the octets as `x`, and what is written; the sink fails at a call, or never at 0.
-fn answer(
+// What words answer over a shelf that holds octets as `x` and a manifest as `m`, and what is written; the sink fails at a call, or
+// never at 0.
+fn answer_with(
     alloc: Global,
     words: &[&str],
     octets: &[u8],
+    manifest: &[u8],
     failing: u64,
 ) -> Result<(Status, Vec<u8>), Fail> {
     let mut shelf = MemShelf::make(alloc)?;
     shelf.add("x", octets)?;
+    shelf.add("m", manifest)?;
     let mut sink = MemSink::make(alloc, 1000)?;
     sink.fail_at(failing)?;
     let mut owned = Vec::new(alloc);
@@ -50,6 +54,16 @@ fn answer(
     }
     let status = run(alloc, &owned, &mut shelf, &mut sink);
     Ok((status, Vec::from_slice(alloc, sink.taken())?))
+}
+
+// The same without a manifest.
+fn answer(
+    alloc: Global,
+    words: &[&str],
+    octets: &[u8],
+    failing: u64,
+) -> Result<(Status, Vec<u8>), Fail> {
+    answer_with(alloc, words, octets, b"", failing)
 }
 
 #[test]
@@ -310,6 +324,158 @@ fn configurations_are_refused(rt: HostRuntime) -> Result<(), Fail> {
         );
         assert_eq!(rt; status.code(), 5);
         assert_eq!(rt; written.as_slice(), line.as_bytes());
+    }
+    Ok(())
+}
+
+const MANIFEST: &str = "version = 1
+[[map]]
+name = \"seen\"
+key = 4
+value = 8
+entries = 100
+[[program]]
+name = \"first\"
+point = \"inbound\"
+fuel = 100
+code = \"85000000010000009500000000000000\"
+";
+
+#[test]
+fn manifests_are_counted(rt: HostRuntime) -> Result<(), Fail> {
+    let (status, text) = answer_with(
+        rt.alloc(),
+        &["check", "x", "m"],
+        CONFIG.as_bytes(),
+        MANIFEST.as_bytes(),
+        0,
+    )?;
+    assert_eq!(rt; status, Status::Done);
+    assert_eq!(rt;
+        text.as_slice(),
+        b"peers 3\nnetworks 0\nmaps 1\nprograms 1\nend\n".as_slice()
+    );
+    Ok(())
+}
+
+// A manifest of so many maps with the widest keys and values, and one outbound program of that code.
+fn manifest_of(alloc: Global, maps: u32, code: &str) -> Result<String, Fail> {
+    let mut text = String::from_str(alloc, "version = 1\n")?;
+    for i in 0..maps {
+        let map = format!(in alloc;
+            "[[map]]\nname = \"m{i}\"\nkey = 64\nvalue = 256\nentries = 65536\n"
+        )?;
+        text.push_str(&map)?;
+    }
+    let program = format!(in alloc;
+        "[[program]]\nname = \"p\"\npoint = \"outbound\"\nfuel = 100\ncode = \"{code}\"\n"
+    )?;
+    text.push_str(&program)?;
+    Ok(text)
+}
+
+#[test]
+fn manifests_are_refused(rt: HostRuntime) -> Result<(), Fail> {
+    let alloc = rt.alloc();
+    let next = "85000000010000009500000000000000";
+    // Helper 10 is not one of the outbound point's.
+    let helper = manifest_of(alloc, 0, "850000000a0000009500000000000000")?;
+    let wide = manifest_of(alloc, 4, next)?;
+    let doubled = wide.replace(alloc, "\"m1\"", "\"m0\"")?;
+    for (text, kind, part, index, line) in [
+        (
+            "",
+            BadKind::Missing,
+            Part::Top,
+            0,
+            "fault manifest missing top 0 0\n",
+        ),
+        (
+            helper.as_str(),
+            BadKind::Helper,
+            Part::Program,
+            1,
+            "fault manifest helper program 1 0\n",
+        ),
+        (
+            wide.as_str(),
+            BadKind::Room,
+            Part::Top,
+            0,
+            "fault manifest room top 0 0\n",
+        ),
+        (
+            doubled.as_str(),
+            BadKind::Double,
+            Part::Map,
+            2,
+            "fault manifest double map 2 0\n",
+        ),
+    ] {
+        let (status, written) = answer_with(
+            alloc,
+            &["check", "x", "m"],
+            CONFIG.as_bytes(),
+            text.as_bytes(),
+            0,
+        )?;
+        let fault = ManifestFault {
+            kind,
+            part,
+            index,
+            slot: 0,
+        };
+        assert_eq!(rt; status, Status::BadManifest(fault), "for {line}");
+        assert_eq!(rt; status.code(), 6);
+        assert_eq!(rt; written.as_slice(), line.as_bytes());
+    }
+    let one = manifest_of(alloc, 1, next)?;
+    let (status, _) = answer_with(
+        alloc,
+        &["check", "x", "m"],
+        CONFIG.as_bytes(),
+        one.as_bytes(),
+        0,
+    )?;
+    assert_eq!(rt; status, Status::Done);
+    Ok(())
+}
+
+// The manifest has its turn when the configuration was judged.
+#[test]
+fn inputs_have_their_turns(rt: HostRuntime) -> Result<(), Fail> {
+    let alloc = rt.alloc();
+    let long = zeros(alloc, 1_048_577)?;
+    for (config, words, manifest, status, text) in [
+        (
+            "",
+            ["check", "x", "y"],
+            b"".as_slice(),
+            Status::BadConfig(ConfigFault {
+                kind: BadKind::Missing,
+                part: Part::Top,
+                index: 0,
+            }),
+            "fault config missing top 0\n",
+        ),
+        (
+            CONFIG,
+            ["check", "x", "y"],
+            b"".as_slice(),
+            Status::ReadFault,
+            "",
+        ),
+        (
+            CONFIG,
+            ["check", "x", "m"],
+            long.as_slice(),
+            Status::TooLong(File::Manifest),
+            "fault long manifest\n",
+        ),
+    ] {
+        let (got, written) = answer_with(alloc, &words, config.as_bytes(), manifest, 0)?;
+        assert_eq!(rt; got, status, "for {text}");
+        assert_eq!(rt; written.as_slice(), text.as_bytes());
     }
     Ok(())
 }

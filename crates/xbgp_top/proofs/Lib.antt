@@ -3,3 +3,4 @@ mod JudgeLemmas
 mod OutputLemmas
 mod TopLemmas
 pub mod ExecLemmas
+pub mod CheckLemmas

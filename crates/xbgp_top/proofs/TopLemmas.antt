@@ -12,15 +12,13 @@ use Rattle.xbgp_top.specs.declared.input.Unread.TheVariants as reasons
 use Rattle.xbgp_top.specs.declared.input.Unread.TheVariants.{Long, Fault}
 use Rattle.xbgp_top.specs.Inputs.{IsWhole, IsLong, IsUnread}
 use Rattle.xbgp_top.specs.declared.status.File.{File}
-use Rattle.xbgp_top.specs.declared.status.File.TheVariants as inputs
 use Rattle.xbgp_top.specs.declared.status.File.TheVariants.{Input}
-use Rattle.xbgp_config.specs.Configs.{config}
 use Rattle.xbgp_top.specs.declared.status.Status.{Status}
 use Rattle.xbgp_top.specs.declared.status.Status.TheVariants.{Done, Usage, ReadFault, WriteFault, OutOfMemory, TooLong}
 use Rattle.xbgp_top.specs.declared.command.Job.{Job}
 use Rattle.xbgp_top.specs.declared.command.Job.TheVariants.{Heard, Judge, Exec}
-use Rattle.xbgp_top.specs.Answers.{Answer, answered, answer, command_answer, job_answer, judge_line, messages_of, place_of_rest, usage_answer, input_limit, long_answer, with_input, alone, bad_code, bad_config, check_answer, counts, end_words, no_helper, bad_stream, table_lines, end_line}
-use Rattle.xbgp_top.specs.Commands.{check, on_file, command_of}
+use Rattle.xbgp_top.specs.Answers.{Answer, answered, answer, command_answer, job_answer, judge_line, messages_of, place_of_rest, usage_answer, input_limit, long_answer, with_input, alone, bad_code, end_words, no_helper, bad_stream, table_lines, end_line}
+use Rattle.xbgp_top.specs.Commands.{on_file, command_of}
 use Rattle.xbgp_top.specs.Outputs.{Stopped, Writes}
 use Rattle.xbgp_top.specs.Top.{Explains, IsAnswered, SaysMissing, told_answer}
 use Rattle.std.specs.Prelude.{codes, ◌∷◌, ◌++◌}
@@ -158,17 +156,19 @@ pub file_is_told : (job : Job) (name : List ℕ) (held : Option Files)
 unfolding command_answer
 file_is_told job name held = refl
 
--- and about a configuration
-pub check_is_told : (name : List ℕ) (held : Option Files)
-    → told_answer (Some (check name)) held ≡ option_map (λ files. with_input inputs.Config files name check_answer) held
-unfolding command_answer
-check_is_told name held = refl
-
 -- the same is known, and the same explains it
 pub explains_as : (told other : Option Answer) (reads_before reads_now writes_before writes_now : ℕ) (before now : Option (List ℕ)) (status : Status) → told ≡ other
     → Explains other reads_before reads_now writes_before writes_now before now status → Explains told reads_before reads_now writes_before writes_now before now status
 explains_as told other reads_before reads_now writes_before writes_now before now status is e =
     subst (λ o. Explains o reads_before reads_now writes_before writes_now before now status) (sym is) e
+
+-- what came before left the shelf as it was, and its count
+pub explains_after : (F : Files → Answer) (first held : Option Files) (reads_first reads_before reads_now writes_before writes_now : ℕ) (before now : Option (List ℕ)) (status : Status)
+    → held ≡ first → reads_before ≡ reads_first → Explains (option_map F held) reads_before reads_now writes_before writes_now before now status
+    → Explains (option_map F first) reads_first reads_now writes_before writes_now before now status
+explains_after F first held reads_first reads_before reads_now writes_before writes_now before now status same quiet e =
+    subst (λ (n : ℕ). Explains (option_map F first) n reads_now writes_before writes_now before now status) quiet
+    (subst (λ (h : Option Files). Explains (option_map F h) reads_before reads_now writes_before writes_now before now status) same e)
 
 -- of all that may be held the answer is the same
 pub same_for_all : (a : Answer) (held : Option Files) → IfSome (option_map (λ files. a) held) (λ t. t ≡ a)
@@ -194,15 +194,6 @@ is_of_octets Exec octets =
     × ((elim o as (λ x. Answer) [ None ↦ answered Done (line (end_words (alone octets)) ++ end_line) | Some fault ↦ bad_code fault ]).status ≢ Usage)) [
       | None ↦ (λ e. cc e, λ e. cc e)
       | Some fault ↦ (λ e. cc e, λ e. cc e)
-    ]
-
--- nor does an answer about the text of a configuration
-pub is_of_text : (text : List ℕ) → ((check_answer text).status ≢ ReadFault) × ((check_answer text).status ≢ Usage)
-is_of_text text =
-    elim (config text) as (λ r. ((elim r as (λ x. Answer) [ Ok c ↦ counts c | Err fault ↦ bad_config fault ]).status ≢ ReadFault)
-    × ((elim r as (λ x. Answer) [ Ok c ↦ counts c | Err fault ↦ bad_config fault ]).status ≢ Usage)) [
-      | Ok c ↦ (λ e. cc e, λ e. cc e)
-      | Err fault ↦ (λ e. cc e, λ e. cc e)
     ]
 
 -- what is known of the answer, where the shelf tells

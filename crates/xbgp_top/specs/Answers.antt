@@ -1,5 +1,5 @@
 -- The answer to the words of a command line: a status and a text, from the files that are held (this project's own).
-use Rattle.std.specs.Prelude.{ℕ, Bool, false, List, [], ◌∷◌, ◌++◌, length, map, flat_map, ◌==◌, Option, Some, None, Ok, Err, codes, decimal, nat_lt, if◌then◌else◌}
+use Rattle.std.specs.Prelude.{ℕ, Bool, false, List, [], ◌∷◌, ◌++◌, length, map, flat_map, ◌==◌, Option, Some, None, Result, Ok, Err, codes, decimal, nat_lt, if◌then◌else◌}
 use Rattle.xb_base.specs.Causes.{Files, file_named}
 use Rattle.xb_base.specs.Prefixes.{Prefix, Sections}
 use Rattle.xb_base.specs.Texts.{line, prefix_text, hex_text}
@@ -13,7 +13,7 @@ use Rattle.xbgp_top.specs.declared.status.File.{File}
 use Rattle.xbgp_top.specs.declared.status.File.TheVariants.{Input}
 use Rattle.xbgp_top.specs.declared.status.File.TheVariants as inputs
 use Rattle.xbgp_top.specs.declared.status.Status.{Status}
-use Rattle.xbgp_top.specs.declared.status.Status.TheVariants.{Done, Usage, ReadFault, TooLong, BadConfig, BadStream, BadCode}
+use Rattle.xbgp_top.specs.declared.status.Status.TheVariants.{Done, Usage, ReadFault, TooLong, BadConfig, BadManifest, BadStream, BadCode}
 use Rattle.bpf_mem.specs.Memory.{fresh}
 use Rattle.bpf_insn.specs.declared.fault.LoadFault.{LoadFault}
 use Rattle.bpf_insn.specs.Loading.{load_fault}
@@ -24,6 +24,9 @@ use Rattle.bpf_machine.specs.Running.{Helps, bpf}
 use Rattle.xbgp_top.specs.Words.{cause_word, kind_word, load_word, part_word}
 use Rattle.xbgp_config.specs.declared.fault.ConfigFault.{ConfigFault}
 use Rattle.xbgp_config.specs.Configs.{Config, config}
+use Rattle.xbgp_manifest.specs.declared.fault.ManifestFault.{ManifestFault}
+use Rattle.xbgp_manifest.specs.Manifests.{Manifest, manifest, no_manifest}
+use Rattle.std.specs.Str.{bytes_eq}
 use Rattle.xbgp_top.specs.declared.command.Job.{Job}
 use Rattle.xbgp_top.specs.declared.command.Job.TheVariants.{Heard, Judge, Exec}
 use Rattle.xbgp_top.specs.Commands.{Command, on_file, check, command_of}
@@ -52,6 +55,7 @@ input_limit = 1048576
 abbrev pub file_word : File → List ℕ
 file_word Input = codes "input"
 file_word inputs.Config = codes "config"
+file_word inputs.Manifest = codes "manifest"
 
 abbrev pub long_answer : File → Answer
 long_answer file = answered (TooLong file) (fault_line (codes "long" ∷ file_word file ∷ []))
@@ -146,22 +150,42 @@ job_answer Exec octets = exec_answer octets
 abbrev pub count_line : List ℕ → ℕ → List ℕ
 count_line word n = line (word ∷ decimal n ∷ [])
 
--- how many peers and networks there are; without a manifest there is no map and no program
-abbrev pub counts : Config → Answer
-counts config =
+-- what a configuration and a manifest have
+abbrev pub counts : Config → Manifest → Answer
+counts config manifest =
     answered Done (count_line (codes "peers") (length config.peers) ++ count_line (codes "networks") (length config.networks)
-    ++ count_line (codes "maps") 0 ++ count_line (codes "programs") 0 ++ end_line)
+    ++ count_line (codes "maps") (length manifest.maps) ++ count_line (codes "programs") (length manifest.programs) ++ end_line)
 
 abbrev pub bad_config : ConfigFault → Answer
 bad_config fault = answered (BadConfig fault) (fault_line (codes "config" ∷ kind_word fault.kind ∷ part_word fault.part ∷ decimal fault.index ∷ []))
 
--- the counts of a configuration, or its first fault
-abbrev pub check_answer : List ℕ → Answer
-check_answer text = elim (config text) [ Ok c ↦ counts c | Err fault ↦ bad_config fault ]
+abbrev pub bad_manifest : ManifestFault → Answer
+bad_manifest fault =
+    answered (BadManifest fault) (fault_line (codes "manifest" ∷ kind_word fault.kind ∷ part_word fault.part ∷ decimal fault.index ∷ decimal fault.slot ∷ []))
+
+-- the configuration that was read, or its first fault
+abbrev pub given_config : (Config → Answer) → Result Config ConfigFault → Answer
+given_config go (Ok c) = go c
+given_config go (Err fault) = bad_config fault
+
+-- the manifest that was read, or its first fault
+abbrev pub given_manifest : (Manifest → Answer) → Result Manifest ManifestFault → Answer
+given_manifest go (Ok m) = go m
+given_manifest go (Err fault) = bad_manifest fault
+
+-- a configuration is read and judged at its turn
+abbrev pub with_config : Files → List ℕ → (Config → Answer) → Answer
+with_config files name go = with_input inputs.Config files name (λ text. given_config go (config text))
+
+-- a manifest is read and judged at its turn; `-` is no manifest, and no file
+abbrev pub with_manifest : Files → List ℕ → (Manifest → Answer) → Answer
+with_manifest files name go =
+    if bytes_eq name (codes "-") then go no_manifest
+    else with_input inputs.Manifest files name (λ text. given_manifest go (manifest text))
 
 unfoldable pub command_answer : Command → Files → Answer
 command_answer (on_file job name) files = with_input Input files name (job_answer job)
-command_answer (check name) files = with_input inputs.Config files name check_answer
+command_answer (check config manifest) files = with_config files config (λ c. with_manifest files manifest (counts c))
 
 -- words that are no command are bad usage
 unfoldable pub answer : List (List ℕ) → Files → Answer

@@ -1,5 +1,5 @@
 -- The commands of the program, by the words of the command line (this project's own).
-use Rattle.std.specs.Prelude.{ℕ, List, [], ◌∷◌, Option, Some, None, codes, if◌then◌else◌, ◌&&◌}
+use Rattle.std.specs.Prelude.{ℕ, List, [], ◌∷◌, Option, Some, None, codes, if◌then◌else◌}
 use Rattle.std.specs.Option.{option_map}
 use Rattle.std.specs.Str.{bytes_eq}
 use Rattle.xbgp_top.specs.declared.command.Job.{Job}
@@ -7,7 +7,7 @@ use Rattle.xbgp_top.specs.declared.command.Job.TheVariants.{Heard, Judge, Exec}
 
 pub data Command : Type 0 where
   on_file : Job → List ℕ → Command
-  check : List ℕ → Command
+  check : List ℕ → List ℕ → Command
 
 -- what is asked about one file
 abbrev pub job_of : List ℕ → Option Job
@@ -19,5 +19,5 @@ job_of word =
 
 abbrev pub command_of : List (List ℕ) → Option Command
 command_of (word ∷ name ∷ []) = option_map (λ job. on_file job name) (job_of word)
-command_of (word ∷ config ∷ manifest ∷ []) = if bytes_eq word (codes "check") && bytes_eq manifest (codes "-") then Some (check config) else None
+command_of (word ∷ config ∷ manifest ∷ []) = if bytes_eq word (codes "check") then Some (check config manifest) else None
 command_of words = None

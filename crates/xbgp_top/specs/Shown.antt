@@ -5,4 +5,4 @@ use Rattle.xbgp_top.specs.Commands.{Command, on_file, check}
 
 abbrev pub shown : lent.Command → Command
 shown (File job name) = on_file job name.now
-shown (Check config) = check config.now
+shown (Check config manifest) = check config.now manifest.now

@@ -5,7 +5,7 @@ use Rattle.xb_base.specs.declared.bad.BadKind.TheVariants as kinds
 use Rattle.xb_base.specs.declared.bad.Part.{Part}
 use Rattle.xb_base.specs.declared.bad.Part.TheVariants as parts
 use Rattle.bpf_insn.specs.declared.fault.LoadKind.{LoadKind}
-use Rattle.bpf_insn.specs.declared.fault.LoadKind.TheVariants as loads
+use Rattle.xbgp_manifest.specs.Manifests.{kind_of}
 use Rattle.bpf_machine.specs.declared.world.Cause.{Cause}
 use Rattle.bpf_machine.specs.declared.world.Cause.TheVariants as causes
 
@@ -39,19 +39,6 @@ part_word parts.Peer = codes "peer"
 part_word parts.Cost = codes "cost"
 part_word parts.Map = codes "map"
 part_word parts.Program = codes "program"
-
--- a fault of bytecode as a fault of what it stands in
-abbrev pub kind_of : LoadKind → BadKind
-kind_of loads.Length = kinds.Length
-kind_of loads.TooLong = kinds.TooLong
-kind_of loads.Opcode = kinds.Opcode
-kind_of loads.Register = kinds.Register
-kind_of loads.Reserved = kinds.Reserved
-kind_of loads.WidePair = kinds.WidePair
-kind_of loads.Jump = kinds.Jump
-kind_of loads.WriteR10 = kinds.WriteR10
-kind_of (loads.Helper number) = kinds.Helper
-kind_of loads.OpenEnd = kinds.OpenEnd
 
 -- why bytecode is refused
 abbrev pub load_word : LoadKind → List ℕ

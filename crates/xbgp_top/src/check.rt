@@ -1,16 +1,23 @@
-ghost use Rattle.std.specs.Prelude.{◌≡◌, ◌+◌, ◌≤◌, ◌++◌, length, IfOk};
-ghost use Rattle.xbgp_top.specs.Answers.{bad_config, check_answer, count_line, counts};
+ghost use Rattle.std.specs.Prelude.{◌≡◌, ◌≢◌, ◌+◌, ◌≤◌, ◌++◌, length, Some, IfOk};
+ghost use Rattle.std.specs.Option.{option_map};
+ghost use Rattle.xbgp_config.specs.Configs.{config};
+ghost use Rattle.xbgp_manifest.specs.Manifests.{manifest, no_manifest};
+ghost use Rattle.xbgp_top.specs.Answers.{bad_config, bad_manifest, count_line, counts, given_config, given_manifest, with_manifest};
+ghost use Rattle.xbgp_top.specs.Commands.{check};
+ghost use Rattle.xbgp_top.specs.Top.{Explains, told_answer};
 ghost use Rattle.xbgp_top.specs.Outputs.{Writes};
 
-use crate::Status;
-use crate::output::say;
+use crate::input::read_input;
+use crate::output::{not_read, say};
 use crate::word::{kind_word, part_word};
+use crate::{File, Status};
 use std::alloc::{AllocError, Global};
-use xb_base::{Buf, Sink, push_decimal};
+use xb_base::{Buf, Shelf, Sink, push_decimal};
 use xbgp_config::{Config, ConfigError, ConfigFault, read_config};
+use xbgp_manifest::{Manifest, ManifestError, ManifestFault, read_manifest};
 
 // The line of a configuration that is refused.
-fn refusal(alloc: Global, fault: ConfigFault) -> Result<Buf, AllocError>
+fn config_refusal(alloc: Global, fault: ConfigFault) -> Result<Buf, AllocError>
     ensures { IfOk result (λ line. line.octets ≡ (bad_config fault).text) }
 {
     let mut line = Buf::make(alloc, 64)?;
@@ -28,8 +35,35 @@ fn refusal(alloc: Global, fault: ConfigFault) -> Result<Buf, AllocError>
 fn refuse_config<K: Sink>(alloc: Global, fault: ConfigFault, sink: &mut K) -> Status
     ensures { Writes (bad_config fault) (K.took sink.old) (K.took sink.new) (K.faults sink.old) (K.faults sink.new) result }
 {
-    match refusal(alloc, fault) {
+    match config_refusal(alloc, fault) {
         Ok(line) => say(sink, line.as_slice(), Status::BadConfig(fault)),
+        Err(_) => Status::OutOfMemory,
+    }
+}
+
+// The line of a manifest that is refused.
+fn manifest_refusal(alloc: Global, fault: ManifestFault) -> Result<Buf, AllocError>
+    ensures { IfOk result (λ line. line.octets ≡ (bad_manifest fault).text) }
+{
+    let mut line = Buf::make(alloc, 80)?;
+    let _ = line.push(b"fault manifest ");
+    let _ = line.push(kind_word(fault.kind));
+    let _ = line.push(b" ");
+    let _ = line.push(part_word(fault.part));
+    let _ = line.push(b" ");
+    let _ = push_decimal(&mut line, u64::from(fault.index));
+    let _ = line.push(b" ");
+    let _ = push_decimal(&mut line, u64::from(fault.slot));
+    let _ = line.push(b"\n");
+    Ok(line)
+}
+
+// Says that a manifest is refused.
+fn refuse_manifest<K: Sink>(alloc: Global, fault: ManifestFault, sink: &mut K) -> Status
+    ensures { Writes (bad_manifest fault) (K.took sink.old) (K.took sink.new) (K.faults sink.old) (K.faults sink.new) result }
+{
+    match manifest_refusal(alloc, fault) {
+        Ok(line) => say(sink, line.as_slice(), Status::BadManifest(fault)),
         Err(_) => Status::OutOfMemory,
     }
 }
@@ -48,35 +82,105 @@ fn push_count(text: &mut Buf, word: &[u8], count: u64)
 }
 
 // The lines of the counts.
-fn count_lines(alloc: Global, config: &Config) -> Result<Buf, AllocError>
-    ensures { IfOk result (λ text. text.octets ≡ (counts config.now).text) }
+fn count_lines(alloc: Global, config: &Config, manifest: &Manifest) -> Result<Buf, AllocError>
+    ensures { IfOk result (λ text. text.octets ≡ (counts config.now manifest.now).text) }
 {
     let mut text = Buf::make(alloc, 160)?;
     push_count(&mut text, b"peers", config.peers.len() as u64);
     push_count(&mut text, b"networks", config.networks.len() as u64);
-    push_count(&mut text, b"maps", 0);
-    push_count(&mut text, b"programs", 0);
+    push_count(&mut text, b"maps", manifest.maps.len() as u64);
+    push_count(&mut text, b"programs", manifest.programs.len() as u64);
     let _ = text.push(b"end\n");
     Ok(text)
 }
 
 // Writes the counts.
-fn print_counts<K: Sink>(alloc: Global, config: &Config, sink: &mut K) -> Status
-    ensures { Writes (counts config.now) (K.took sink.old) (K.took sink.new) (K.faults sink.old) (K.faults sink.new) result }
+fn print_counts<K: Sink>(
+    alloc: Global,
+    config: &Config,
+    manifest: &Manifest,
+    sink: &mut K,
+) -> Status
+    ensures { Writes (counts config.now manifest.now) (K.took sink.old) (K.took sink.new) (K.faults sink.old) (K.faults sink.new) result }
 {
-    match count_lines(alloc, config) {
+    match count_lines(alloc, config, manifest) {
         Ok(text) => say(sink, text.as_slice(), Status::Done),
         Err(_) => Status::OutOfMemory,
     }
 }
 
-/// Writes the counts of a configuration, or its first fault.
-pub(crate) fn print_checked<K: Sink>(alloc: Global, text: &[u8], sink: &mut K) -> Status
-    ensures { Writes (check_answer text.now) (K.took sink.old) (K.took sink.new) (K.faults sink.old) (K.faults sink.new) result }
+// Writes the counts without a manifest.
+fn print_alone<K: Sink>(alloc: Global, config: &Config, sink: &mut K) -> Status
+    ensures { Writes (counts config.now no_manifest) (K.took sink.old) (K.took sink.new) (K.faults sink.old) (K.faults sink.new) result }
+{
+    match Manifest::none(alloc) {
+        Ok(manifest) => print_counts(alloc, config, &manifest, sink),
+        Err(_) => Status::OutOfMemory,
+    }
+}
+
+// Writes the counts with the manifest that a text is, or its first fault.
+fn print_checked<K: Sink>(alloc: Global, config: &Config, text: &[u8], sink: &mut K) -> Status
+    ensures { Writes (given_manifest (counts config.now) (manifest text.now)) (K.took sink.old) (K.took sink.new) (K.faults sink.old) (K.faults sink.new) result }
+{
+    match read_manifest(alloc, text) {
+        Ok(manifest) => print_counts(alloc, config, &manifest, sink),
+        Err(ManifestError::Bad(fault)) => refuse_manifest(alloc, fault, sink),
+        Err(ManifestError::OutOfMemory) => Status::OutOfMemory,
+    }
+}
+
+// Reads a manifest and writes the counts.
+fn check_manifest<S: Shelf, K: Sink>(
+    alloc: Global,
+    config: &Config,
+    name: &str,
+    shelf: &mut S,
+    sink: &mut K,
+) -> Status
+    ensures explains { Explains (option_map (λ files. with_manifest files name.now (counts config.now)) (S.held shelf.old)) (S.faults shelf.old) (S.faults shelf.new) (K.faults sink.old) (K.faults sink.new) (K.took sink.old) (K.took sink.new) result }
+    ensures command { result ≢ Status.Usage }
+{
+    if name == "-" {
+        return print_alone(alloc, config, sink);
+    }
+    match read_input(alloc, shelf, name) {
+        Ok(text) => print_checked(alloc, config, &text, sink),
+        Err(why) => not_read(File::Manifest, why, sink),
+    }
+}
+
+// Judges the text of a configuration, and goes on with the manifest.
+fn check_text<S: Shelf, K: Sink>(
+    alloc: Global,
+    text: &[u8],
+    manifest: &str,
+    shelf: &mut S,
+    sink: &mut K,
+) -> Status
+    ensures explains { Explains (option_map (λ files. given_config (λ c. with_manifest files manifest.now (counts c)) (config text.now)) (S.held shelf.old)) (S.faults shelf.old) (S.faults shelf.new) (K.faults sink.old) (K.faults sink.new) (K.took sink.old) (K.took sink.new) result }
+    ensures command { result ≢ Status.Usage }
 {
     match read_config(alloc, text) {
-        Ok(config) => print_counts(alloc, &config, sink),
+        Ok(config) => check_manifest(alloc, &config, manifest, shelf, sink),
         Err(ConfigError::Bad(fault)) => refuse_config(alloc, fault, sink),
         Err(ConfigError::OutOfMemory) => Status::OutOfMemory,
+    }
+}
+
+/// Reads a configuration and a manifest, and writes what they have.
+pub(crate) fn check_config<S: Shelf, K: Sink>(
+    alloc: Global,
+    config: &str,
+    manifest: &str,
+    shelf: &mut S,
+    sink: &mut K,
+) -> Status
+    ensures explains { Explains (told_answer (Some (check config.now manifest.now)) (S.held shelf.old)) (S.faults shelf.old) (S.faults shelf.new) (K.faults sink.old) (K.faults sink.new) (K.took sink.old) (K.took sink.new) result }
+    ensures command { result ≢ Status.Usage }
+{
+    match read_input(alloc, shelf, config) {
+        Ok(text) => check_text(alloc, &text, manifest, shelf, sink),
+        Err(why) => not_read(File::Config, why, sink),
     }
 }

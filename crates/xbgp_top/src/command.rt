@@ -15,7 +15,7 @@ pub(crate) enum Job {
 #[derive(Clone, Copy, Debug)]
 pub(crate) enum Command<'a> {
     File(Job, &'a str),
-    Check(&'a str),
+    Check(&'a str, &'a str),
 }
 
 fn job_in(word: &str) -> Option<Job>
@@ -41,8 +41,8 @@ pub(crate) fn command_in(words: &[String]) -> Option<Command<'_>>
             Some(job) => Some(Command::File(job, name.as_str())),
             None => None,
         },
-        [word, config, manifest] if word.as_str() == "check" && manifest.as_str() == "-" => {
-            Some(Command::Check(config.as_str()))
+        [word, config, manifest] if word.as_str() == "check" => {
+            Some(Command::Check(config.as_str(), manifest.as_str()))
         }
         _ => None,
     }

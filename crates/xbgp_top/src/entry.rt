@@ -1,17 +1,17 @@
 ghost use Rattle.std.specs.Prelude.{◌≡◌, ◌≢◌, ◌≤◌, ◌⊎◌, Some, map, string_bytes};
 ghost use Rattle.xb_base.specs.Causes.{Files, Rose, TookFront};
-ghost use Rattle.xbgp_top.specs.Answers.{answer, job_answer, long_answer};
-ghost use Rattle.xbgp_top.specs.Commands.{check, command_of, on_file};
-ghost use Rattle.xbgp_top.specs.Outputs.{Stopped, Writes};
+ghost use Rattle.xbgp_top.specs.Answers.{answer, job_answer};
+ghost use Rattle.xbgp_top.specs.Commands.{command_of, on_file};
+ghost use Rattle.xbgp_top.specs.Outputs.{Writes};
 ghost use Rattle.xbgp_top.specs.Top.{Explains, IsAnswered, IsUsage, SaysMissing, told_answer};
 
-use crate::check::print_checked;
+use crate::check::check_config;
 use crate::command::{Command, Job, command_in};
 use crate::exec::print_ended;
 use crate::hear::print_heard;
-use crate::input::{Unread, read_input};
+use crate::input::read_input;
 use crate::judge::print_judged;
-use crate::output::say;
+use crate::output::{not_read, say};
 use crate::{File, Status};
 use std::alloc::Global;
 use xb_base::{Shelf, Sink};
@@ -24,27 +24,6 @@ fn print_job<K: Sink>(alloc: Global, job: Job, octets: &[u8], sink: &mut K) -> S
         Job::Heard => print_heard(alloc, octets, sink),
         Job::Judge => print_judged(alloc, octets, sink),
         Job::Exec => print_ended(alloc, octets, sink),
-    }
-}
-
-// The line that says that an input is too long.
-fn long_line(file: File) -> &'static [u8]
-    ensures { result.now ≡ (long_answer file).text }
-{
-    match file {
-        File::Input => b"fault long input\n",
-        File::Config => b"fault long config\n",
-    }
-}
-
-// Answers that an input was not read.
-fn not_read<K: Sink>(file: File, why: Unread, sink: &mut K) -> Status
-    ensures { Stopped file why (K.took sink.old) (K.took sink.new) (K.faults sink.old) (K.faults sink.new) result }
-{
-    match why {
-        Unread::Long => say(sink, long_line(file), Status::TooLong(file)),
-        Unread::Fault => Status::ReadFault,
-        Unread::OutOfMemory => Status::OutOfMemory,
     }
 }
 
@@ -65,22 +44,6 @@ fn ask_file<S: Shelf, K: Sink>(
     }
 }
 
-// Reads a configuration and counts what it has.
-fn check_config<S: Shelf, K: Sink>(
-    alloc: Global,
-    name: &str,
-    shelf: &mut S,
-    sink: &mut K,
-) -> Status
-    ensures explains { Explains (told_answer (Some (check name.now)) (S.held shelf.old)) (S.faults shelf.old) (S.faults shelf.new) (K.faults sink.old) (K.faults sink.new) (K.took sink.old) (K.took sink.new) result }
-    ensures command { result ≢ Status.Usage }
-{
-    match read_input(alloc, shelf, name) {
-        Ok(text) => print_checked(alloc, &text, sink),
-        Err(why) => not_read(File::Config, why, sink),
-    }
-}
-
 // Does what the words say.
 fn obey<S: Shelf, K: Sink>(alloc: Global, words: &[String], shelf: &mut S, sink: &mut K) -> Status
     ensures explains { Explains (told_answer (command_of (map string_bytes words.now)) (S.held shelf.old)) (S.faults shelf.old) (S.faults shelf.new) (K.faults sink.old) (K.faults sink.new) (K.took sink.old) (K.took sink.new) result }
@@ -89,7 +52,9 @@ fn obey<S: Shelf, K: Sink>(alloc: Global, words: &[String], shelf: &mut S, sink:
     match command_in(words) {
         None => say(sink, b"fault usage\n", Status::Usage),
         Some(Command::File(job, name)) => ask_file(alloc, job, name, shelf, sink),
-        Some(Command::Check(name)) => check_config(alloc, name, shelf, sink),
+        Some(Command::Check(config, manifest)) => {
+            check_config(alloc, config, manifest, shelf, sink)
+        }
     }
 }
 

@@ -1,8 +1,9 @@
 ghost use Rattle.std.specs.Prelude.{◌≡◌, ◌≢◌, ◌≤◌, ◌++◌, [], ◌∷◌, codes, decimal, IfOk, OnOk};
-ghost use Rattle.xbgp_top.specs.Answers.{answered, bad_stream, fault_line};
-ghost use Rattle.xbgp_top.specs.Outputs.{Gathers, Writes};
+ghost use Rattle.xbgp_top.specs.Answers.{answered, bad_stream, fault_line, long_answer};
+ghost use Rattle.xbgp_top.specs.Outputs.{Gathers, Stopped, Writes};
 
-use crate::Status;
+use crate::input::Unread;
+use crate::{File, Status};
 use std::alloc::{AllocError, Global};
 use xb_base::{Buf, Sink, gather, push_decimal};
 
@@ -20,6 +21,28 @@ pub(crate) fn say<K: Sink>(sink: &mut K, text: &[u8], status: Status) -> Status
     match sink.put(text) {
         Ok(()) => status,
         Err(_) => Status::WriteFault,
+    }
+}
+
+// The line that says that an input is too long.
+fn long_line(file: File) -> &'static [u8]
+    ensures { result.now ≡ (long_answer file).text }
+{
+    match file {
+        File::Input => b"fault long input\n",
+        File::Config => b"fault long config\n",
+        File::Manifest => b"fault long manifest\n",
+    }
+}
+
+/// Answers that an input was not read.
+pub(crate) fn not_read<K: Sink>(file: File, why: Unread, sink: &mut K) -> Status
+    ensures { Stopped file why (K.took sink.old) (K.took sink.new) (K.faults sink.old) (K.faults sink.new) result }
+{
+    match why {
+        Unread::Long => say(sink, long_line(file), Status::TooLong(file)),
+        Unread::Fault => Status::ReadFault,
+        Unread::OutOfMemory => Status::OutOfMemory,
     }
 }
 

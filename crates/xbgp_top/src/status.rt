@@ -3,12 +3,14 @@ ghost use Rattle.xbgp_top.specs.Codes.{code_of};
 
 use bpf_insn::LoadFault;
 use xbgp_config::ConfigFault;
+use xbgp_manifest::ManifestFault;
 
 /// An input that has a limit.
 #[derive(Clone, Copy, Debug, PartialEq, Eq)]
 pub enum File {
     Input,
     Config,
+    Manifest,
 }
 
 /// How a run ended.
@@ -18,6 +20,7 @@ pub enum File {
 /// - `ReadFault`: an input could not be read.
 /// - `WriteFault`: the text could not be written; a front of it was.
 /// - `BadConfig`: the configuration is refused.
+/// - `BadManifest`: the manifest is refused.
 /// - `OutOfMemory`: there was no memory; a front of the text may have been written.
 /// - `TooLong`: an input has more octets than its limit.
 /// - `BadStream`: the stream is refused at that offset.
@@ -29,6 +32,7 @@ pub enum Status {
     ReadFault,
     WriteFault,
     BadConfig(ConfigFault),
+    BadManifest(ManifestFault),
     OutOfMemory,
     TooLong(File),
     BadStream(u64),
@@ -46,6 +50,7 @@ impl Status {
             Status::ReadFault => 3,
             Status::WriteFault => 4,
             Status::BadConfig(_) => 5,
+            Status::BadManifest(_) => 6,
             Status::OutOfMemory => 8,
             Status::TooLong(_) => 9,
             Status::BadStream(_) => 10,

@@ -1,9 +1,10 @@
 ghost use Rattle.std.specs.Prelude.{◌≡◌, ◌≤◌, length};
-ghost use Rattle.xbgp_top.specs.Words.{cause_word, kind_of, kind_word, load_word, part_word};
+ghost use Rattle.xbgp_top.specs.Words.{cause_word, kind_word, load_word, part_word};
 
 use bpf_insn::LoadKind;
 use bpf_machine::Cause;
 use xb_base::{BadKind, Part};
+use xbgp_manifest::kind_of;
 
 /// The word for what is wrong with a configuration or a manifest.
 pub(crate) fn kind_word(kind: BadKind) -> &'static [u8]
@@ -45,24 +46,6 @@ pub(crate) fn part_word(part: Part) -> &'static [u8]
         Part::Cost => b"cost",
         Part::Map => b"map",
         Part::Program => b"program",
-    }
-}
-
-// A fault of bytecode as a fault of what it stands in.
-fn kind_of(kind: LoadKind) -> BadKind
-    ensures { result ≡ kind_of kind }
-{
-    match kind {
-        LoadKind::Length => BadKind::Length,
-        LoadKind::TooLong => BadKind::TooLong,
-        LoadKind::Opcode => BadKind::Opcode,
-        LoadKind::Register => BadKind::Register,
-        LoadKind::Reserved => BadKind::Reserved,
-        LoadKind::WidePair => BadKind::WidePair,
-        LoadKind::Jump => BadKind::Jump,
-        LoadKind::WriteR10 => BadKind::WriteR10,
-        LoadKind::Helper(_) => BadKind::Helper,
-        LoadKind::OpenEnd => BadKind::OpenEnd,
     }
 }
 
