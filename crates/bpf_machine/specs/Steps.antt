@@ -7,6 +7,7 @@ use Rattle.bpf_insn.specs.Slots.{insn_at, word}
 use Rattle.bpf_insn.specs.Forms.{class, by_register, code_of}
 use Rattle.bpf_machine.specs.Words.{low, extended, result_of, holds, converted}
 
+-- what a program has between two instructions
 pub record Machine : Type 0 where
   pub regs : List ℕ
   pub memory : Memory
@@ -69,6 +70,7 @@ loaded opcode n =
 abbrev pub sets : Machine → ℕ → ℕ → ℕ → Did
 sets m r n next = goes (record m { regs = slice_set m.regs r n; place = next })
 
+-- a jump, a call or an end, by its code: 0 JA, 8 CALL, 9 EXIT, else a conditional jump
 unfoldable pub jumps : Machine → Insn → Did
 jumps m i =
     let k = code_of i.opcode in
@@ -77,10 +79,12 @@ jumps m i =
     else if k == 9 then ends (reg m.regs 0)
     else goes (record m { place = (if is_taken i (reg m.regs i.dst) (operand m.regs i) then jumped m.place (word i.offset) else m.place + 1) })
 
+-- a load of what stands at an address, if there is anything
 abbrev pub loads : Machine → Insn → Option ℕ → Did
 loads m i None = faults
 loads m i (Some n) = sets m i.dst (loaded i.opcode n) (m.place + 1)
 
+-- a store that leaves some memory, if it may be done
 abbrev pub stores : Machine → Option Memory → Did
 stores m None = faults
 stores m (Some memory) = goes (record m { memory = memory; place = m.place + 1 })

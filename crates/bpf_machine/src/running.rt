@@ -39,7 +39,8 @@ pub fn run<H: Helpers>(code: &Code, memory: &mut Memory<'_>, world: &mut H, fuel
     ensures end { result ≡ (bpf H.helps code.now memory.old fuel (H.state world.old)).end }
     ensures memory { memory.new ≡ (bpf H.helps code.now memory.old fuel (H.state world.old)).memory }
     ensures state { H.state world.new ≡ (bpf H.helps code.now memory.old fuel (H.state world.old)).world }
-    ensures causes { (result ≢ End.Failed Cause.BadReturn) × (result ≢ End.Failed Cause.BadOutput) }
+    ensures no_bad_return { result ≢ End.Failed Cause.BadReturn }
+    ensures no_bad_output { result ≢ End.Failed Cause.BadOutput }
 {
     // Looked at for the clause `accepted` alone.
     let _slots = code.slots();

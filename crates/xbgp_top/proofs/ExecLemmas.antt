@@ -4,7 +4,7 @@ use Rattle.xb_base.specs.Texts.{line}
 use Rattle.bpf_insn.specs.declared.fault.LoadFault.{LoadFault}
 use Rattle.bpf_insn.specs.Loading.{load_fault}
 use Rattle.bpf_insn.proofs.Faults.{call-allowed, load_fault-same}
-use Rattle.bpf_machine.specs.Running.{CallsOnly}
+use Rattle.bpf_insn.specs.Sound.{CallsOnly}
 use Rattle.xbgp_top.specs.declared.status.Status.{Status}
 use Rattle.xbgp_top.specs.declared.status.Status.TheVariants.{Done}
 use Rattle.xbgp_top.specs.Answers.{Answer, alone, answered, bad_code, end_line, end_words, exec_answer, no_helper}
