@@ -115,7 +115,7 @@ parts_cases test c (x ∷ text) none =
           ]
     ]
 
-number_none : (limit : ℕ) (text : List ℕ) → list_all is_digit text ≡ false → number_up_to limit text ≡ None
+pub number_none : (limit : ℕ) (text : List ℕ) → list_all is_digit text ≡ false → number_up_to limit text ≡ None
 number_none limit [] e = refl
 number_none limit (c ∷ []) e =
     elim (cases_Bool (is_digit c)) [
@@ -188,7 +188,7 @@ pub prefix_read : (text address len : List ℕ) (a l : Option ℕ) → parts 47 
     → (a >>= λ a. l >>= λ l. Some (prefix_of a l)) ≡ read_prefix text
 prefix_read text address len a l e is_a is_l = rw (is_a, is_l) (sym (prefix_parts text address len e))
 
-number_fits : (limit n : ℕ) (text : List ℕ) → Some n ≡ number_up_to limit text → n ≤ limit
+pub number_fits : (limit n : ℕ) (text : List ℕ) → Some n ≡ number_up_to limit text → n ≤ limit
 number_fits limit n text e =
     elim (cases_Bool (is_decimal text && nat_le (digits_value text) limit)) [
       | inl fits ↦

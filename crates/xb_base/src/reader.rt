@@ -1,4 +1,4 @@
-ghost use Rattle.std.specs.Prelude.{◌≡◌, ◌-◌, ◌*◌, ◌+◌, ◌^◌, ◌∷◌, [], Some, None, position, nat_le, ◌==◌, ◌&&◌, if◌then◌else◌, IfNone, IfSome};
+ghost use Rattle.std.specs.Prelude.{◌≡◌, ◌-◌, ◌*◌, ◌+◌, ◌^◌, ◌∷◌, [], Some, None, position, nat_le, ◌==◌, ◌&&◌, if◌then◌else◌, IfNone, IfSome, length};
 ghost use Rattle.std.specs.List.{list_all};
 ghost use Rattle.xb_base.specs.Readers.{parts, is_digit, digits_value, number_up_to, read_decimal, read_dotted, read_prefix};
 
@@ -15,6 +15,7 @@ fn place_of(text: &[u8], separator: u8) -> Option<usize>
 pub fn split_once(text: &[u8], separator: u8) -> Option<(&[u8], &[u8])>
     ensures whole { IfNone result (parts separator text.now ≡ text.now ∷ []) }
     ensures split { IfSome result (λ p. parts separator text.now ≡ p.0.now ∷ parts separator p.1.now) }
+    ensures size { IfSome result (λ p. length p.0.now + 1 + length p.1.now ≡ length text.now) }
 {
     let at = place_of(text, separator)?;
     Some((&text[..at], &text[at + 1..]))

@@ -1,0 +1,152 @@
+ghost use Rattle.std.specs.Prelude.{◌≡◌, ℕ, ◌≤◌, ◌∷◌, length, Some, None, false, codes, if◌then◌else◌};
+ghost use Rattle.std.specs.Borrow.{sem};
+ghost use Rattle.std.specs.Option.{option_map};
+ghost use Rattle.std.specs.Str.{bytes_eq};
+ghost use Rattle.xb_base.specs.Actors.{event_of, octets as octets_in, rescan};
+ghost use Rattle.xb_base.specs.Readers.{parts, number_up_to};
+ghost use Rattle.replay_log.specs.Lines.{at_least, peer_event, event_of_words, line_of};
+ghost use Rattle.replay_log.specs.Said.{said, told_with, KeepsRoom};
+
+use crate::hex::read_hex;
+use xb_base::{Buf, Event, read_decimal, split_once};
+
+/// What a line says: nothing, or an event. The octets of an event stand in the buffer that the line was read with.
+#[derive(Clone, Copy, Debug)]
+pub enum Line<'a> {
+    Blank,
+    Event(Event<'a>),
+}
+
+// What a line says, but for the octets of an event.
+#[derive(Clone, Copy)]
+enum Told {
+    Blank,
+    Octets(u32),
+    Event(Event<'static>),
+}
+
+// A number from the least to the most.
+fn number_in(text: &[u8], least: u32, most: u32) -> Option<u32>
+    ensures { result ≡ at_least least (number_up_to most text.now) }
+{
+    let number = read_decimal(text)?;
+    if u64::from(least) <= number && number <= u64::from(most) {
+        Some(number as u32)
+    } else {
+        None
+    }
+}
+
+// The event of a word behind which a peer stands alone.
+fn peer_event(word: &[u8], peer: u32) -> Option<Event<'static>>
+    ensures { option_map event_of result ≡ option_map (λ e. e peer) (peer_event word.now) }
+{
+    if word == b"start".as_slice() {
+        Some(Event::Start(peer))
+    } else if word == b"stop".as_slice() {
+        Some(Event::Stop(peer))
+    } else if word == b"up".as_slice() {
+        Some(Event::Up(peer))
+    } else if word == b"down".as_slice() {
+        Some(Event::Down(peer))
+    } else if word == b"drain".as_slice() {
+        Some(Event::Drain(peer))
+    } else {
+        None
+    }
+}
+
+// The event of a word behind which nothing stands.
+fn lone_event(word: &[u8]) -> Option<Event<'static>>
+    ensures { option_map event_of result ≡ (if bytes_eq word.now (codes "rescan") then Some rescan else None) }
+{
+    if word == b"rescan".as_slice() {
+        Some(Event::Rescan)
+    } else {
+        None
+    }
+}
+
+// The event of a word and what stands behind it, but for octets.
+fn event_behind(word: &[u8], arguments: &[u8], peers: u32, now: u32) -> Option<Event<'static>>
+    requires { bytes_eq word.now (codes "in") ≡ false }
+    ensures { option_map event_of result ≡ event_of_words peers now (word.now ∷ parts 32 arguments.now) }
+{
+    if word == b"room".as_slice() {
+        let (peer, count) = split_once(arguments, b' ')?;
+        let peer = number_in(peer, 1, peers)?;
+        Some(Event::Room(peer, number_in(count, 1, u32::MAX)?))
+    } else if word == b"time".as_slice() {
+        Some(Event::Time(number_in(arguments, now, u32::MAX)?))
+    } else {
+        peer_event(word, number_in(arguments, 1, peers)?)
+    }
+}
+
+// The peer of octets that come in, which replace the content of the buffer.
+fn octets_behind(arguments: &[u8], peers: u32, octets: &mut Buf) -> Option<u32>
+    requires short { length arguments.now ≤ 8400 }
+    requires room { 4200 ≤ octets.old.capacity }
+    ensures event { (now : ℕ) → option_map (λ p. octets_in p octets.new.octets) result ≡ event_of_words peers now (codes "in" ∷ parts 32 arguments.now) }
+    ensures capacity { octets.new.capacity ≡ octets.old.capacity }
+{
+    let (peer, digits) = split_once(arguments, b' ')?;
+    let peer = number_in(peer, 1, peers)?;
+    if !digits.is_empty() && read_hex(digits, octets) {
+        Some(peer)
+    } else {
+        None
+    }
+}
+
+// What a line says. The octets of an event stand in the buffer.
+fn read_line(line: &[u8], peers: u32, now: u32, octets: &mut Buf) -> Option<Told>
+    requires short { length line.now ≤ 8400 }
+    requires room { 4200 ≤ octets.old.capacity }
+    ensures line { option_map (told_with octets.new.octets) result ≡ line_of peers now line.now }
+    ensures capacity { octets.new.capacity ≡ octets.old.capacity }
+{
+    if line.is_empty() || line[0] == b'#' {
+        return Some(Told::Blank);
+    }
+    match split_once(line, b' ') {
+        None => Some(Told::Event(lone_event(line)?)),
+        Some((word, arguments)) if word == b"in".as_slice() => {
+            Some(Told::Octets(octets_behind(arguments, peers, octets)?))
+        }
+        Some((word, arguments)) => Some(Told::Event(event_behind(word, arguments, peers, now)?)),
+    }
+}
+
+fn with_octets<'a>(told: Option<Told>, octets: &'a [u8]) -> Option<Line<'a>>
+    ensures { option_map said result ≡ option_map (told_with octets.now) told }
+{
+    match told {
+        None => None,
+        Some(Told::Blank) => Some(Line::Blank),
+        Some(Told::Octets(peer)) => Some(Line::Event(Event::Octets(peer, octets))),
+        Some(Told::Event(event)) => Some(Line::Event(event)),
+    }
+}
+
+/// The same as `parse_line`. Its contract says besides that the buffer keeps its capacity once the line is gone.
+pub fn parse_into<'a>(octets: &'a mut Buf, line: &[u8], peers: u32, now: u32) -> Option<Line<'a>>
+    requires short { length line.now ≤ 8400 }
+    requires room { 4200 ≤ octets.old.capacity }
+    ensures* keeps { sem 𝓛 (KeepsRoom octets.entry) }
+    ensures line { option_map said result ≡ line_of peers now line.now }
+{
+    let told = read_line(line, peers, now, octets);
+    with_octets(told, octets.as_slice())
+}
+
+/// What a line without its end says, for so many peers and from a clock on, or None where it is outside the grammar.
+///
+/// It replaces the content of `octets`, and takes no memory.
+pub fn parse_line<'a>(line: &[u8], peers: u32, now: u32, octets: &'a mut Buf) -> Option<Line<'a>>
+    requires short { length line.now ≤ 8400 }
+    requires room { 4200 ≤ octets.old.capacity }
+    ensures { option_map said result ≡ line_of peers now line.now }
+{
+    parse_into(octets, line, peers, now)
+}
