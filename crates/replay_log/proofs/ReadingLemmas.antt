@@ -1,14 +1,15 @@
 -- A line that is read octet by octet.
-use Rattle.std.proofs.Common.{◌≡◌, refl, sym, ap, ◌∙◌, inl, inr, ℕ, suc, ◌+◌, ◌-◌, ◌<◌, ◌≤◌, Bool, true, false, ◌==◌, nat_lt, if◌then◌else◌, List, [], ◌∷◌, ◌++◌, length, take, drop, get_or, Option, Some, None, slice_get, IfSome, arith, length-append, drop-cons, zero-add}
+use Rattle.std.proofs.Common.{◌≡◌, refl, sym, ap, ◌∙◌, inl, inr, ℕ, suc, ◌+◌, ◌-◌, ◌<◌, ◌≤◌, Bool, true, false, ◌==◌, nat_lt, if◌then◌else◌, List, [], ◌∷◌, ◌++◌, length, take, drop, get_or, Option, Some, None, slice_get, IfSome, MatchOption, arith, length-append, drop-cons, zero-add}
 use Rattle.std.specs.List.{position_or_len}
 use Rattle.std.proofs.lemmas.Bool.{cases_Bool, cases_lt, eqb-true, eqb-false, eq-eqb, ne_eqb, lt-ltb, le-ltb}
 use Rattle.std.proofs.lemmas.List.{append_assoc, append-nil, take_at, drop_all, length-take, get_or-take}
 use Rattle.std.proofs.lemmas.Option.{slice_get-get_or, slice_get_within, get_or_from_slice_get}
+use Rattle.xb_base.specs.Causes.{Files, file_named}
 use Rattle.xb_base.specs.Buffers.{Buffer, Appends}
 use Rattle.replay_log.specs.Logs.{line_size, log_limit}
 use Rattle.replay_log.specs.declared.reader.Got.{Got}
 use Rattle.replay_log.specs.declared.reader.Got.TheVariants.{Line, End, LineTooLong, TooLong, Failed}
-use Rattle.replay_log.specs.Readings.{Next, Reading, answered, line, end, line_too_long, log_too_long, by_size, next_in, next_at}
+use Rattle.replay_log.specs.Readings.{Next, Reading, answered, StandsAhead, line, end, line_too_long, log_too_long, by_size, next_in, next_at}
 
 -- what comes where these octets of the line were read, the reader stands at a place, and these are left before the limit
 abbrev pub scan : ℕ → Bool → List ℕ → List ℕ → Next
@@ -190,3 +191,12 @@ answered_else End r t P other h = h
 answered_else LineTooLong r t P other h = h
 answered_else TooLong r t P other h = h
 answered_else Failed r t P other h = tt
+
+-- a reader that read nothing ahead
+pub nothing_ahead : (held : Option Files) (name : List ℕ) (r : Reading) → r.ahead ≡ [] → StandsAhead held name r
+nothing_ahead None name r e = tt
+nothing_ahead (Some files) name r e =
+    elim (file_named files name) as (λ (o : Option (List ℕ)). MatchOption o (r.ahead ≡ []) (λ log. r.ahead ≡ take (length r.ahead) (drop r.at log))) [
+      | None ↦ e
+      | Some log ↦ rw e refl
+    ]

@@ -44,21 +44,23 @@ line_clock now (says e) = clock_after now e
 abbrev pub short_line : ℕ → ℕ → List ℕ → Option Line
 short_line peers now line = if nat_lt longest_line (length line) then None else line_of peers now line
 
+-- what line n says and the log behind it, or the end at a line that is outside
+abbrev pub said_then : ℕ → (Line → Log) → Option Line → Log
+said_then n behind None = ends (bad n)
+said_then n behind (Some said) = onto said (behind said)
+
 -- what stands behind the last line end: nothing, a last line, or more than the limit lets through
 abbrev pub last_line : ℕ → Bool → ℕ → ℕ → List ℕ → Log
 last_line peers longer n now rest =
     if nat_lt longest_line (length rest) then ends (bad n)
     else if longer then ends too_long
-    else elim (line_of peers now rest) [ None ↦ ends (bad n) | Some line ↦ onto line (ends whole) ]
+    else said_then n (λ said. ends whole) (line_of peers now rest)
 
 -- line n and those behind it
 abbrev pub log_from : ℕ → Bool → ℕ → ℕ → List (List ℕ) → List ℕ → Log
 log_from peers longer n now [] rest = last_line peers longer n now rest
 log_from peers longer n now (line ∷ lines) rest =
-    elim (short_line peers now (take (length line - 1) line)) [
-      | None ↦ ends (bad n)
-      | Some said ↦ onto said (log_from peers longer (n + 1) (line_clock now said) lines rest)
-    ]
+    said_then n (λ said. log_from peers longer (n + 1) (line_clock now said) lines rest) (short_line peers now (take (length line - 1) line))
 
 -- a whole line with its end
 abbrev pub line_size : List ℕ → Option ℕ

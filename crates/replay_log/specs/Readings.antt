@@ -2,7 +2,7 @@
 use Rattle.std.specs.Prelude.{◌≡◌, ℕ, ◌+◌, ◌-◌, Bool, List, [], length, take, drop, Option, Some, None, MatchOption, nat_lt, ◌==◌, if◌then◌else◌}
 use Rattle.xb_base.specs.Causes.{Files, file_named}
 use Rattle.replay_log.specs.Lines.{line_of}
-use Rattle.replay_log.specs.Logs.{Log, ends, onto, line_clock, whole, bad, too_long, line_size, longest_line, log_limit, log_at}
+use Rattle.replay_log.specs.Logs.{Log, ends, said_then, line_clock, whole, bad, too_long, line_size, longest_line, log_limit, log_at}
 use Rattle.replay_log.specs.declared.reader.Got.{Got}
 use Rattle.replay_log.specs.declared.reader.Got.TheVariants.{Line, End, LineTooLong, TooLong, Failed}
 
@@ -41,11 +41,7 @@ next_at log at = next_in at (nat_lt log_limit (length log)) (drop at (take log_l
 
 -- what a log says from a place on, by what comes there
 abbrev pub log_by : ℕ → List ℕ → ℕ → ℕ → Next → Log
-log_by peers log n now (line text behind) =
-    elim (line_of peers now text) [
-      | None ↦ ends (bad n)
-      | Some said ↦ onto said (log_at peers log behind (n + 1) (line_clock now said))
-    ]
+log_by peers log n now (line text behind) = said_then n (λ said. log_at peers log behind (n + 1) (line_clock now said)) (line_of peers now text)
 log_by peers log n now end = ends whole
 log_by peers log n now line_too_long = ends (bad n)
 log_by peers log n now log_too_long = ends too_long

@@ -5,6 +5,7 @@
 #![tactic(auto)]
 
 mod hex;
+pub mod laws;
 mod line;
 mod reader;
 

@@ -1,4 +1,4 @@
-ghost use Rattle.std.specs.Prelude.{◌≡◌, ◌≢◌, ◌⊎◌, ℕ, ◌+◌, ◌≤◌, List, [], length, slice_get, Some, IfOk, IfSome, IfErr, OnOk, OnErr, IsErr};
+ghost use Rattle.std.specs.Prelude.{◌≡◌, ◌≢◌, ◌⊎◌, ℕ, ◌+◌, ◌<◌, ◌≤◌, List, [], length, slice_get, Some, IfOk, IfSome, IfErr, OnOk, OnErr, IsErr};
 ghost use Rattle.xb_base.specs.Causes.{Rose, IsMissing};
 ghost use Rattle.replay_log.specs.Readings.{told_text, next_at, answered, StandsAhead};
 
@@ -64,6 +64,7 @@ fn read_line<S: Shelf>(shelf: &mut S, name: &str, start: u64, line: &mut Buf) ->
     ensures told { (log : List ℕ) → told_text (S.held shelf.old) name.now ≡ Some log
         → IfSome (answered result.0 (record { line = line.new.octets; at = result.1; ahead = [] })) (λ next. next ≡ next_at log start) }
     ensures missing { IsMissing (S.held shelf.old) name.now → result.0 ≡ Got.Failed }
+    ensures forward { result.0 ≡ Got.Line → start < result.1 }
     ensures place { result.1 ≤ LOG_LIMIT }
     ensures short { length line.new.octets ≤ LINE_LIMIT }
     ensures room { line.new.capacity ≡ LINE_LIMIT }
@@ -107,6 +108,8 @@ impl LogReader {
         requires { StandsAhead (S.held shelf.old) name.now self.old }
         ensures told { (log : List ℕ) → told_text (S.held shelf.old) name.now ≡ Some log
             → IfSome (answered result self.new) (λ next. next ≡ next_at log self.old.at) }
+        ensures forward { result ≡ Got.Line → self.old.at < self.new.at }
+        ensures within { self.new.at ≤ LOG_LIMIT }
         ensures stays { result ≢ Got.Line → (self.new.line ≡ self.old.line) × (self.new.at ≡ self.old.at) }
         ensures ahead { StandsAhead (S.held shelf.new) name.now self.new }
         ensures missing { IsMissing (S.held shelf.old) name.now → result ≡ Got.Failed }

@@ -55,33 +55,37 @@ keys_of (member key d others) = key ∷ keys_of others
 abbrev pub is_listed : List (List ℕ) → List ℕ → Bool
 is_listed listed key = list_any (bytes_eq key) listed
 
--- a table that has listed keys alone
+-- listed keys alone
 unfoldable pub keys_listed : List (List ℕ) → Members → Bool
 keys_listed listed ms = list_all (is_listed listed) (keys_of ms)
 
+-- the keys and values of a table with listed keys
 unfoldable pub table_with : Place → List (List ℕ) → Data → Judged Members
 table_with at listed d = do
   ms ← found at Shape (as_table d)
   _ ← must at Key (keys_listed listed ms)
   Ok ms
 
--- a number that isn't negative and stands between a least and a most
+-- from a least to a most
 abbrev pub is_between : ℕ → ℕ → ℕ → Bool
 is_between least most n = nat_le least n && nat_le n most
 
+-- a whole number in its range
 abbrev pub number_between : ℕ → ℕ → ℤ → Option ℕ
 number_between least most (pos n) = if is_between least most n then Some n else None
 number_between least most (negsuc n) = None
 
+-- the number that a value is
 unfoldable pub number : Place → ℕ → ℕ → Data → Judged ℕ
 number at least most d = do
   z ← found at Shape (as_integer d)
   found at Range (number_between least most z)
 
--- a text, and what a reader takes from it
+-- the text that a value is
 unfoldable pub string_in : Place → Data → Judged (List ℕ)
 string_in at d = found at Shape (as_str d)
 
+-- what a reader takes from a text
 abbrev pub text : {A : Type 0} → Place → (List ℕ → Option A) → Data → Judged A
 text at read d = do
   written ← string_in at d
@@ -94,12 +98,13 @@ list_of at most d = do
   _ ← must at Count (nat_le (length (data_of items)) most)
   Ok (data_of items)
 
--- what stands at a key that must be there, and at one that may be absent
+-- what stands at a key that must be there
 unfoldable pub required : {A : Type 0} → Place → List ℕ → (Data → Judged A) → Members → Judged A
 required at key read ms = do
   d ← found at Missing (get_member key ms)
   read d
 
+-- what stands at a key that may be absent
 unfoldable pub optional : {A : Type 0} → List ℕ → A → (Data → Judged A) → Members → Judged A
 optional key default read ms = elim (get_member key ms) [ None ↦ Ok default | Some d ↦ read d ]
 
@@ -110,6 +115,6 @@ entries_from judge position earlier (d ∷ ds) = do
   x ← judge position earlier d
   entries_from judge (position + 1) (earlier ++ x ∷ []) ds
 
--- positions are counted from 1
+-- all entries; positions are counted from 1
 unfoldable pub entries : {A : Type 0} → (ℕ → List A → Data → Judged A) → List Data → Judged (List A)
 entries judge ds = entries_from judge 1 [] ds

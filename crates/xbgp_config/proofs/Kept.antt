@@ -19,7 +19,7 @@ use Rattle.xbgp_config.specs.declared.speaker.SpeakerFields.{SpeakerFields}
 use Rattle.xbgp_config.specs.declared.speaker.SpeakerPart.{SpeakerPart}
 use Rattle.xbgp_config.specs.declared.lists.PeerEntry.{PeerEntry}
 use Rattle.xbgp_config.specs.declared.lists.CostEntry.{CostEntry}
-use Rattle.xbgp_config.specs.Configs.{Config, IsConfig, is_as, is_hold, is_host_address, same_prefix, host_text, id_text, hold_time, speaker_fields, speaker_part, network_entry, peer_fields, peer_entry, cost_fields, cost_entry, speaker_keys, top_keys, fault_of, config_of, config}
+use Rattle.xbgp_config.specs.Configs.{Config, IsConfig, greatest_as, is_as, is_hold, is_host_address, same_prefix, host_text, id_text, hold_time, speaker_fields, speaker_part, network_entry, peer_fields, peer_entry, cost_fields, cost_entry, speaker_keys, top_keys, fault_of, config_of, config}
 use Rattle.xbgp_config.proofs.Addresses.{prefix_good, passing_ok}
 
 -- no element passes a test that none passes
@@ -84,7 +84,7 @@ fields_kept : (ms : Members) (f : SpeakerFields) → speaker_fields ms ≡ Ok f 
 unfolding speaker_fields
 fields_kept ms f e =
     let at = place Speaker 0 in
-    let a = bind_ok (required at (codes "as") (number at 1 65535) ms) _ f e in
+    let a = bind_ok (required at (codes "as") (number at 1 greatest_as) ms) _ f e in
     let i = bind_ok (required at (codes "id") (text at id_text) ms) _ f a.2 in
     let h = bind_ok (required at (codes "address") (text at host_text) ms) _ f i.2 in
     let t = bind_ok (optional (codes "hold") 90 hold_time ms) _ f h.2 in
@@ -92,7 +92,7 @@ fields_kept ms f e =
     let kept : SpeakerFields = record { local = record { number = 0; asn = a.0; address = h.0; id = i.0; kind = 0 }; hold = t.0; local_pref = p.0 } in
     rw (← same_ok kept f p.2) (record {
       speaker = (refl, refl);
-      asn = number_at at (codes "as") 1 65535 ms a.0 a.1;
+      asn = number_at at (codes "as") 1 greatest_as ms a.0 a.1;
       address = host_at at (codes "address") ms h.0 h.1;
       id = id_at at (codes "id") ms i.0 i.1;
       hold = hold_at ms t.0 t.1;
@@ -158,9 +158,9 @@ unfolding peer_fields
 peer_ranges i d p e =
     let at = place Peer i in
     let t = bind_ok (table_with at (codes "as" ∷ codes "address" ∷ []) d) _ p e in
-    let a = bind_ok (required at (codes "as") (number at 1 65535) t.0) _ p t.2 in
+    let a = bind_ok (required at (codes "as") (number at 1 greatest_as) t.0) _ p t.2 in
     let h = bind_ok (required at (codes "address") (text at host_text) t.0) _ p a.2 in
-    rw (← same_ok _ p h.2) (number_at at (codes "as") 1 65535 t.0 a.0 a.1, host_at at (codes "address") t.0 h.0 h.1)
+    rw (← same_ok _ p h.2) (number_at at (codes "as") 1 greatest_as t.0 a.0 a.1, host_at at (codes "address") t.0 h.0 h.1)
 
 peer_step : (own i : ℕ) (earlier : List PeerEntry) (d : Data) (x : PeerEntry) → PeersKept own earlier → peer_entry own i earlier d ≡ Ok x → PeersKept own (earlier ++ x ∷ [])
 peer_step own i earlier d x kept e =

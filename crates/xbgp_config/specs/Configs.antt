@@ -16,6 +16,7 @@ use Rattle.xbgp_config.specs.declared.fault.ConfigFault.{ConfigFault}
 use Rattle.xbgp_config.specs.declared.lists.PeerEntry.{PeerEntry}
 use Rattle.xbgp_config.specs.declared.lists.CostEntry.{CostEntry}
 
+-- a configuration: the speaker, its hold time, its default degree of preference, and its lists in order
 pub record Config : Type 0 where
   pub local : Side
   pub hold : ℕ
@@ -25,8 +26,11 @@ pub record Config : Type 0 where
   pub costs : List CostEntry
 
 -- AS numbers of two octets
+abbrev pub greatest_as : ℕ
+greatest_as = 65535
+
 abbrev pub is_as : ℕ → Bool
-is_as n = is_between 1 65535 n
+is_as n = is_between 1 greatest_as n
 
 -- a hold time: none, or at least three seconds (RFC 4271, section 4.2)
 abbrev pub is_hold : ℕ → Bool
@@ -36,6 +40,7 @@ is_hold n = n == 0 || nat_le 3 n && nat_le n 65535
 abbrev pub is_host_address : ℕ → Bool
 is_host_address a = let first = a / 2 ^ 24 in not (first == 0) && not (first == 127) && nat_lt first 224
 
+-- prefixes with the same address and the same length
 abbrev pub same_prefix : Prefix → Prefix → Bool
 same_prefix p q = p.addr == q.addr && p.len == q.len
 
@@ -62,6 +67,7 @@ abbrev pub passing : (ℕ → Bool) → Option ℕ → Option ℕ
 passing test None = None
 passing test (Some a) = if test a then Some a else None
 
+-- the address of a host, and a BGP identifier, which isn't 0.0.0.0
 abbrev pub host_text : List ℕ → Option ℕ
 host_text s = passing is_host_address (read_dotted s)
 
@@ -82,19 +88,21 @@ hold_time d = do
   _ ← must (place Speaker 0) Range (is_hold n)
   Ok n
 
--- the speaker: itself, and what it says of sessions, of routes and of networks
+-- the speaker itself, its hold time and its default degree of preference
 unfoldable pub speaker_fields : Members → Judged SpeakerFields
 speaker_fields ms = do
-  asn ← required (place Speaker 0) (codes "as") (number (place Speaker 0) 1 65535) ms
+  asn ← required (place Speaker 0) (codes "as") (number (place Speaker 0) 1 greatest_as) ms
   id ← required (place Speaker 0) (codes "id") (text (place Speaker 0) id_text) ms
   address ← required (place Speaker 0) (codes "address") (text (place Speaker 0) host_text) ms
   hold ← optional (codes "hold") 90 hold_time ms
   pref ← optional (codes "local_pref") 100 (number (place Speaker 0) 0 4294967295) ms
   Ok (record { local = record { number = 0; asn = asn; address = address; id = id; kind = 0 }; hold = hold; local_pref = pref })
 
+-- the keys of the speaker's table
 abbrev pub speaker_keys : List (List ℕ)
 speaker_keys = codes "as" ∷ codes "id" ∷ codes "address" ∷ codes "hold" ∷ codes "local_pref" ∷ codes "networks" ∷ []
 
+-- the speaker with its networks
 unfoldable pub speaker_part : Data → Judged SpeakerPart
 speaker_part d = do
   ms ← table_with (place Speaker 0) speaker_keys d
@@ -103,21 +111,22 @@ speaker_part d = do
   networks ← entries network_entry listed
   Ok (record { fields = fields; networks = networks })
 
--- a peer, whose address is neither the speaker's nor an earlier peer's
+-- a peer
 unfoldable pub peer_fields : ℕ → Data → Judged PeerEntry
 peer_fields i d = do
   ms ← table_with (place Peer i) (codes "as" ∷ codes "address" ∷ []) d
-  asn ← required (place Peer i) (codes "as") (number (place Peer i) 1 65535) ms
+  asn ← required (place Peer i) (codes "as") (number (place Peer i) 1 greatest_as) ms
   address ← required (place Peer i) (codes "address") (text (place Peer i) host_text) ms
   Ok (record { asn = asn; address = address })
 
+-- a peer whose address is neither the speaker's nor an earlier peer's
 abbrev pub peer_entry : ℕ → ℕ → List PeerEntry → Data → Judged PeerEntry
 peer_entry own i earlier d = do
   peer ← peer_fields i d
   _ ← must (place Peer i) Double (not (peer.address == own || list_any (λ p. peer.address == p.address) earlier))
   Ok peer
 
--- the interior cost of a next hop, which no earlier one has
+-- the interior cost of a next hop
 unfoldable pub cost_fields : ℕ → Data → Judged CostEntry
 cost_fields i d = do
   ms ← table_with (place Cost i) (codes "next_hop" ∷ codes "cost" ∷ []) d
@@ -125,12 +134,14 @@ cost_fields i d = do
   cost ← required (place Cost i) (codes "cost") (number (place Cost i) 0 4294967295) ms
   Ok (record { next_hop = hop; cost = cost })
 
+-- a cost whose next hop no earlier one has
 abbrev pub cost_entry : ℕ → List CostEntry → Data → Judged CostEntry
 cost_entry i earlier d = do
   entry ← cost_fields i d
   _ ← must (place Cost i) Double (not (list_any (λ c. entry.next_hop == c.next_hop) earlier))
   Ok entry
 
+-- the keys of a configuration
 abbrev pub top_keys : List (List ℕ)
 top_keys = codes "speaker" ∷ codes "peer" ∷ codes "cost" ∷ []
 

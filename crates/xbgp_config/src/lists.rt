@@ -4,6 +4,9 @@ ghost use Rattle.std.specs.Prelude.{◌≡◌, ◌<◌, Some, length, slice_get}
 use std::marker::Model;
 use xb_base::Prefix;
 
+/// The greatest AS number that a configuration may have.
+pub(crate) const GREATEST_AS: u32 = 65535;
+
 /// A peer: its AS and its address.
 #[derive(Clone, Copy, Debug, PartialEq, Eq)]
 pub struct PeerEntry {

@@ -6,7 +6,7 @@ ghost use Rattle.xb_fields.specs.Fields.{entries};
 ghost use Rattle.xb_fields.specs.Outcomes.{Gives};
 ghost use Rattle.xbgp_config.specs.Configs.{peer_fields, peer_entry};
 
-use crate::lists::{PeerEntry, Peers};
+use crate::lists::{GREATEST_AS, PeerEntry, Peers};
 use crate::texts::required_host;
 use std::alloc::Global;
 use toml::Value;
@@ -22,7 +22,7 @@ fn peer_fields(index: u32, value: &Value) -> Result<PeerEntry, Bad>
         index,
     };
     let table = table_with(at, &["as", "address"], value)?;
-    let asn = required_number(at, "as", 1, 65535, table)?;
+    let asn = required_number(at, "as", 1, GREATEST_AS, table)?;
     let address = required_host(at, "address", table)?;
     Ok(PeerEntry { asn, address })
 }

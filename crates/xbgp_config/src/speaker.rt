@@ -5,7 +5,7 @@ ghost use Rattle.xb_fields.specs.Fields.{optional};
 ghost use Rattle.xb_fields.specs.Outcomes.{Gives};
 ghost use Rattle.xbgp_config.specs.Configs.{is_hold, hold_time, speaker_fields, speaker_part};
 
-use crate::lists::Networks;
+use crate::lists::{GREATEST_AS, Networks};
 use crate::networks::read_networks;
 use crate::texts::{required_host, required_id};
 use std::alloc::Global;
@@ -68,7 +68,7 @@ fn optional_hold(table: &Table) -> Result<u16, Bad>
 fn speaker_fields(table: &Table) -> Result<SpeakerFields, Bad>
     ensures { result ≡ speaker_fields (table_view table.now) }
 {
-    let asn = required_number(SPEAKER, "as", 1, 65535, table)?;
+    let asn = required_number(SPEAKER, "as", 1, GREATEST_AS, table)?;
     let id = required_id(SPEAKER, "id", table)?;
     let address = required_host(SPEAKER, "address", table)?;
     let hold = optional_hold(table)?;
@@ -88,7 +88,6 @@ fn speaker_fields(table: &Table) -> Result<SpeakerFields, Bad>
 }
 
 /// Reads the table of the speaker.
-
 pub fn read_speaker(alloc: Global, value: &Value) -> Result<SpeakerPart, FieldError>
     ensures { Gives result (speaker_part (view value.now)) }
 {

@@ -12,6 +12,7 @@ octets-init g c =
       held = refl;
       faults = refl;
       left = λ log is. ap (λ (b : Buffer). left_at c.args.start b.octets log) c.requires.empty ∙ left_first c.args.start log;
+      moved = omega (arith, size);
       place = c.requires.start;
       short = omega (arith, size);
       room = ap (λ (b : Buffer). b.capacity) c.requires.empty;
@@ -67,6 +68,7 @@ octets-preserved g c =
           left_pushed c.octets.place c.in-Ok-Some.field-0-0 c.octets.line c.push.new.self log (sym c.in-Ok-Some.field-0-is ∙ c.in-Ok-Some.ensures.octet log told) c.if-place-ge-LOG_LIMIT.false
           c.in-Ok-Some-2.octet-test.1 grown less
           ∙ c.octets.invariant.left log is;
+      moved = omega (arith, size, c.octets.invariant.moved);
       place = omega (arith, c.if-place-ge-LOG_LIMIT.false);
       short = omega (arith, size, less);
       room = ap (λ (b : Buffer). b.capacity) grown ∙ c.octets.invariant.room;

@@ -1,4 +1,4 @@
-use Rattle.std.proofs.Common.{◌≡◌, ℕ, ◌-◌, ◌≤◌, List, length, Some}
+use Rattle.std.proofs.Common.{◌≡◌, ℕ, ◌+◌, ◌-◌, ◌≤◌, List, length, Some}
 use Rattle.replay_log.specs.Readings.{told_text, next_at}
 use Rattle.replay_log.proofs.ReadingLemmas.{left_at}
 use Rattle.replay_log.proofs.reader.read_line.Given as goal
@@ -9,6 +9,7 @@ invariant-octets g l = record {
   held : g.S.Shelf.held l.shelf ≡ g.S.Shelf.held l.fn.shelf;
   faults : g.S.Shelf.faults l.shelf ≡ g.S.Shelf.faults l.fn.shelf;
   left : (log : List ℕ) → told_text (g.S.Shelf.held l.fn.shelf) l.name ≡ Some log → left_at l.place l.line.octets log ≡ next_at log l.start;
+  moved : l.place ≡ l.start + length l.line.octets;
   place : l.place ≤ 67108864;
   short : length l.line.octets ≤ 8400;
   room : l.line.capacity ≡ 8400;
