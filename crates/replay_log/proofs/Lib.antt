@@ -2,3 +2,5 @@ pub mod LineLemmas
 pub mod HexLemmas
 pub mod ReadingLemmas
 pub mod LogLemmas
+pub mod FitLemmas
+mod Rows

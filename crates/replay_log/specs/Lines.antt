@@ -1,5 +1,5 @@
 -- What one line of an event log says: words that are separated by one space (this project's own).
-use Rattle.std.specs.Prelude.{ℕ, ◌+◌, ◌-◌, ◌*◌, ◌^◌, List, [], ◌∷◌, Option, Some, None, nat_le, codes, ◌==◌, if◌then◌else◌}
+use Rattle.std.specs.Prelude.{ℕ, ◌+◌, ◌-◌, ◌*◌, ◌^◌, ◌≤◌, List, [], ◌∷◌, Option, Some, None, nat_le, codes, ◌==◌, if◌then◌else◌}
 use Rattle.std.specs.Str.{bytes_eq}
 use Rattle.xb_words.specs.Optional.{◌>>=◌}
 use Rattle.xb_base.specs.Actors.{Event, start, stop, up, down, octets, time, room, drain, rescan}
@@ -9,6 +9,18 @@ use Rattle.xb_base.specs.Readers.{parts, number_up_to, hex_value, read_hex}
 pub data Line : Type 0 where
   blank : Line
   says : Event → Line
+
+-- an event names one of so many peers, and a time is not below the clock
+abbrev pub IsFor : ℕ → ℕ → Event → Type 0
+IsFor peers now (start p) = (1 ≤ p) × (p ≤ peers)
+IsFor peers now (stop p) = (1 ≤ p) × (p ≤ peers)
+IsFor peers now (up p) = (1 ≤ p) × (p ≤ peers)
+IsFor peers now (down p) = (1 ≤ p) × (p ≤ peers)
+IsFor peers now (octets p bytes) = (1 ≤ p) × (p ≤ peers)
+IsFor peers now (time t) = now ≤ t
+IsFor peers now (room p k) = (1 ≤ p) × (p ≤ peers)
+IsFor peers now (drain p) = (1 ≤ p) × (p ≤ peers)
+IsFor peers now rescan = Unit {0}
 
 -- a number, where it is not below another
 abbrev pub at_least : ℕ → Option ℕ → Option ℕ

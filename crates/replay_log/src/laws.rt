@@ -1,11 +1,17 @@
 //! Laws of the definitions. Each is the contract of a function that does nothing.
-ghost use Rattle.std.specs.Prelude.{◌≡◌, ℕ, List};
-ghost use Rattle.replay_log.specs.Logs.{log, log_at};
+ghost use Rattle.std.specs.Prelude.{◌≡◌, ℕ, List, Some};
+ghost use Rattle.xb_base.specs.Actors.{Event};
+ghost use Rattle.replay_log.specs.Lines.{line_of, says, IsFor};
+ghost use Rattle.replay_log.specs.Logs.{log_at};
 ghost use Rattle.replay_log.specs.Readings.{next_at, log_by};
 
-/// A log is what stands from its front on, as line 1 and with the clock at 0. From any place on it is what comes there, with
-/// the log behind that.
+/// From any place on, what a log says is what the line that comes there says, with the log behind it. So the lines that a
+/// reader gives, each parsed in turn, say the log.
 pub fn line_by_line()
-    ensures front { (peers : ℕ) (text : List ℕ) → log peers text ≡ log_at peers text 0 1 0 }
-    ensures next { (peers n now at : ℕ) (text : List ℕ) → log_at peers text at n now ≡ log_by peers text n now (next_at text at) }
+    ensures { (peers n now at : ℕ) (text : List ℕ) → log_at peers text at n now ≡ log_by peers text n now (next_at text at) }
+{}
+
+/// An event of a line names one of the peers that the line was read for, and does not put the clock back.
+pub fn events_fit()
+    ensures { (peers now : ℕ) (line : List ℕ) (event : Event) → line_of peers now line ≡ Some (says event) → IsFor peers now event }
 {}

@@ -5,6 +5,7 @@ ghost use Rattle.std.specs.Str.{bytes_eq};
 ghost use Rattle.xb_base.specs.Actors.{event_of, octets as octets_in, rescan};
 ghost use Rattle.xb_base.specs.Readers.{parts, number_up_to};
 ghost use Rattle.replay_log.specs.Lines.{at_least, peer_event, event_of_words, line_of};
+ghost use Rattle.replay_log.specs.Logs.{longest_line};
 ghost use Rattle.replay_log.specs.Said.{said, told_with, KeepsRoom};
 
 use crate::hex::read_hex;
@@ -129,9 +130,10 @@ fn with_octets<'a>(told: Option<Told>, octets: &'a [u8]) -> Option<Line<'a>>
     }
 }
 
-/// The same as `parse_line`. Its contract says besides that the buffer keeps its capacity once the line is gone.
+/// The same as `parse_line`. Its contract says besides that the buffer has its old capacity once the line is gone, so that
+/// it serves for the next one.
 pub fn parse_into<'a>(octets: &'a mut Buf, line: &[u8], peers: u32, now: u32) -> Option<Line<'a>>
-    requires short { length line.now ≤ 8400 }
+    requires short { length line.now ≤ longest_line }
     requires room { 4200 ≤ octets.old.capacity }
     ensures* keeps { sem 𝓛 (KeepsRoom octets.entry) }
     ensures line { option_map said result ≡ line_of peers now line.now }
@@ -142,9 +144,9 @@ pub fn parse_into<'a>(octets: &'a mut Buf, line: &[u8], peers: u32, now: u32) ->
 
 /// What a line without its end says, for so many peers and from a clock on, or None where it is outside the grammar.
 ///
-/// It replaces the content of `octets`, and takes no memory.
+/// It replaces the content of `octets`, in which the octets of an event then stand.
 pub fn parse_line<'a>(line: &[u8], peers: u32, now: u32, octets: &'a mut Buf) -> Option<Line<'a>>
-    requires short { length line.now ≤ 8400 }
+    requires short { length line.now ≤ longest_line }
     requires room { 4200 ≤ octets.old.capacity }
     ensures { option_map said result ≡ line_of peers now line.now }
 {

@@ -1,5 +1,6 @@
 ghost use Rattle.std.specs.Prelude.{◌≡◌, ◌≢◌, ◌⊎◌, ℕ, ◌+◌, ◌<◌, ◌≤◌, List, [], length, slice_get, Some, IfOk, IfSome, IfErr, OnOk, OnErr, IsErr};
 ghost use Rattle.xb_base.specs.Causes.{Rose, IsMissing};
+ghost use Rattle.replay_log.specs.Logs.{log_limit, longest_line};
 ghost use Rattle.replay_log.specs.Readings.{told_text, next_at, answered, StandsAhead};
 
 use std::alloc::{AllocError, Global};
@@ -11,17 +12,20 @@ const LOG_LIMIT: u64 = 67_108_864;
 
 const LINE_LIMIT: usize = 8_400;
 
-/// What came at the place where a reader stood. After `TooLong` the log has more octets than its limit.
+/// What came at the place where a reader stood.
 #[derive(Clone, Copy, Debug, PartialEq, Eq)]
 pub enum Got {
     Line,
+    /// Nothing stands behind the last line.
     End,
+    /// The line has more than 8,400 octets.
     LineTooLong,
+    /// The log has more than 67,108,864 octets, and the line does not end within them.
     TooLong,
     Failed,
 }
 
-/// Reads a log line by line.
+/// Reads a log line by line, from its front on.
 #[derive(Drop)]
 pub struct LogReader {
     line: Buf,
@@ -92,7 +96,7 @@ fn read_line<S: Shelf>(shelf: &mut S, name: &str, start: u64, line: &mut Buf) ->
 }
 
 impl LogReader {
-    /// Stands at the front of a log. Takes the memory of all later calls.
+    /// Takes the memory of all later calls.
     pub fn make(alloc: Global) -> Result<LogReader, AllocError>
         ensures { IfOk result (λ r. r ≡ record { line = []; at = 0; ahead = [] }) }
     {
@@ -109,7 +113,7 @@ impl LogReader {
         ensures told { (log : List ℕ) → told_text (S.held shelf.old) name.now ≡ Some log
             → IfSome (answered result self.new) (λ next. next ≡ next_at log self.old.at) }
         ensures forward { result ≡ Got.Line → self.old.at < self.new.at }
-        ensures within { self.new.at ≤ LOG_LIMIT }
+        ensures within { self.new.at ≤ log_limit }
         ensures stays { result ≢ Got.Line → (self.new.line ≡ self.old.line) × (self.new.at ≡ self.old.at) }
         ensures ahead { StandsAhead (S.held shelf.new) name.now self.new }
         ensures missing { IsMissing (S.held shelf.old) name.now → result ≡ Got.Failed }
@@ -129,10 +133,10 @@ impl LogReader {
         got
     }
 
-    /// The last line, without its end.
+    /// The last line, without its end. It is empty before the first.
     pub fn line(&self) -> &[u8]
         ensures value { result.now ≡ self.now.line }
-        ensures short { length result.now ≤ 8400 }
+        ensures short { length result.now ≤ longest_line }
     {
         self.line.as_slice()
     }
