@@ -15,7 +15,7 @@ use Rattle.xbgp_maps.specs.declared.shape.Remove.{Remove}
 use Rattle.xbgp_maps.specs.declared.shape.Remove.TheVariants as removes
 use Rattle.xb_words.specs.Table.{without}
 use Rattle.xbgp_maps.specs.Mappings.{Mapping, IsMapping, Journalled, key_cmp, mapping_at, value_in, put_in, taken_from, put_answer, remove_answer, after_put, after_remove, budget, is_full, written, empty_maps, is_from_1_to, shapes_of, AreWithinLimits}
-use Rattle.xbgp_maps.specs.Journals.{Change, restored, taken_back, all_taken_back, CanTakeBack, CanTakeAllBack, IsNarrow, IsUndoable, seen, when_done, was_put, was_removed}
+use Rattle.xbgp_maps.specs.Journals.{Write, restored, taken_back, all_taken_back, CanTakeBack, CanTakeAllBack, IsNarrow, IsUndoable, seen, when_done, was_put, was_removed}
 use Rattle.xbgp_maps.proofs.Entries.{found, undo_new, undo_over, undo_without, value_with, length_without}
 
 get_again : (maps : List Mapping) (n : ℕ) (m after : Mapping) → slice_get maps n ≡ Some m → slice_get (slice_set maps n after) n ≡ Some after
@@ -41,50 +41,50 @@ one_back maps n m after k old there is =
     ap back (get_again maps n m after there) ∙ (ap (λ (x : Mapping). slice_set (slice_set maps n after) n x) is ∙ set_again maps n m after there)
 
 -- the last of some writes is taken back first
-all_back_push : (ws : List Change) (w : Change) (maps : List Mapping) → all_taken_back (ws ++ w ∷ []) maps ≡ all_taken_back ws (taken_back w maps)
+all_back_push : (ws : List Write) (w : Write) (maps : List Mapping) → all_taken_back (ws ++ w ∷ []) maps ≡ all_taken_back ws (taken_back w maps)
 all_back_push [] w maps = refl
 all_back_push (x ∷ ws) w maps = ap (taken_back x) (all_back_push ws w maps)
 
-can_push : (ws : List Change) (w : Change) (maps : List Mapping) → CanTakeAllBack ws (taken_back w maps) → CanTakeBack w maps → CanTakeAllBack (ws ++ w ∷ []) maps
+can_push : (ws : List Write) (w : Write) (maps : List Mapping) → CanTakeAllBack ws (taken_back w maps) → CanTakeBack w maps → CanTakeAllBack (ws ++ w ∷ []) maps
 can_push [] w maps all last = (tt, last)
 can_push (x ∷ ws) w maps all last = (can_push ws w maps all.0 last, subst (CanTakeBack x) (sym (all_back_push ws w maps)) all.1)
 
-can_pop : (ws : List Change) (w : Change) (maps : List Mapping) → CanTakeAllBack (ws ++ w ∷ []) maps → CanTakeAllBack ws (taken_back w maps) × CanTakeBack w maps
+can_pop : (ws : List Write) (w : Write) (maps : List Mapping) → CanTakeAllBack (ws ++ w ∷ []) maps → CanTakeAllBack ws (taken_back w maps) × CanTakeBack w maps
 can_pop [] w maps all = (tt, all.1)
 can_pop (x ∷ ws) w maps all =
     let rest = can_pop ws w maps all.0 in
     ((rest.0, subst (CanTakeBack x) (all_back_push ws w maps) all.1), rest.1)
 
 -- the last write and those before it
-cut_at : (ws : List Change) (n : ℕ) (w : Change) → length ws ≡ suc n → slice_get ws n ≡ Some w → ws ≡ take n ws ++ w ∷ []
+cut_at : (ws : List Write) (n : ℕ) (w : Write) → length ws ≡ suc n → slice_get ws n ≡ Some w → ws ≡ take n ws ++ w ∷ []
 cut_at [] n w len last = absurd (cc last)
-cut_at (x ∷ []) zero w len last = let same : x ≡ w = cc last in ap (λ (y : Change). y ∷ []) same
+cut_at (x ∷ []) zero w len last = let same : x ≡ w = cc last in ap (λ (y : Write). y ∷ []) same
 cut_at (x ∷ y ∷ ws) zero w len last = absurd (omega (arith, len))
-cut_at (x ∷ ws) (suc n) w len last = ap (λ (t : List Change). x ∷ t) (cut_at ws n w (omega (arith, len)) last)
+cut_at (x ∷ ws) (suc n) w len last = ap (λ (t : List Write). x ∷ t) (cut_at ws n w (omega (arith, len)) last)
 
-cut_last : (ws : List Change) (w : Change) → slice_get ws (length ws - 1) ≡ Some w → ws ≡ take (length ws - 1) ws ++ w ∷ []
+cut_last : (ws : List Write) (w : Write) → slice_get ws (length ws - 1) ≡ Some w → ws ≡ take (length ws - 1) ws ++ w ∷ []
 cut_last [] w last = absurd (cc last)
 cut_last (x ∷ ws) w last =
     let len : suc (length ws) ≡ suc (suc (length ws) - 1) = omega arith in
     cut_at (x ∷ ws) (suc (length ws) - 1) w len last
 
-last_there : (x : Change) (ws : List Change) → slice_get (x ∷ ws) (length ws) ≡ None → ⊥
+last_there : (x : Write) (ws : List Write) → slice_get (x ∷ ws) (length ws) ≡ None → ⊥
 last_there x [] none = cc none
 last_there x (y ∷ ws) none = last_there y ws none
 
-pub no_last : (ws : List Change) → slice_get ws (length ws - 1) ≡ None → ws ≡ []
+pub no_last : (ws : List Write) → slice_get ws (length ws - 1) ≡ None → ws ≡ []
 no_last [] none = refl
 no_last (x ∷ ws) none =
     let len : suc (length ws) - 1 ≡ length ws = omega arith in
     absurd (last_there x ws (subst (λ n. slice_get (x ∷ ws) n ≡ None) len none))
 
-pub can_take_last : (ws : List Change) (w : Change) (maps : List Mapping) → slice_get ws (length ws - 1) ≡ Some w → CanTakeAllBack ws maps → CanTakeBack w maps
+pub can_take_last : (ws : List Write) (w : Write) (maps : List Mapping) → slice_get ws (length ws - 1) ≡ Some w → CanTakeAllBack ws maps → CanTakeBack w maps
 can_take_last ws w maps last all = (can_pop (take (length ws - 1) ws) w maps (subst (λ vs. CanTakeAllBack vs maps) (cut_last ws w last) all)).1
 
-pub can_take_rest : (ws : List Change) (w : Change) (maps : List Mapping) → slice_get ws (length ws - 1) ≡ Some w → CanTakeAllBack ws maps → CanTakeAllBack (take (length ws - 1) ws) (taken_back w maps)
+pub can_take_rest : (ws : List Write) (w : Write) (maps : List Mapping) → slice_get ws (length ws - 1) ≡ Some w → CanTakeAllBack ws maps → CanTakeAllBack (take (length ws - 1) ws) (taken_back w maps)
 can_take_rest ws w maps last all = (can_pop (take (length ws - 1) ws) w maps (subst (λ vs. CanTakeAllBack vs maps) (cut_last ws w last) all)).0
 
-pub last_then_rest : (ws : List Change) (w : Change) (maps : List Mapping) → slice_get ws (length ws - 1) ≡ Some w → all_taken_back (take (length ws - 1) ws) (taken_back w maps) ≡ all_taken_back ws maps
+pub last_then_rest : (ws : List Write) (w : Write) (maps : List Mapping) → slice_get ws (length ws - 1) ≡ Some w → all_taken_back (take (length ws - 1) ws) (taken_back w maps) ≡ all_taken_back ws maps
 last_then_rest ws w maps last = sym (all_back_push (take (length ws - 1) ws) w maps) ∙ sym (ap (λ vs. all_taken_back vs maps) (cut_last ws w last))
 
 -- the old value fits into the journal
@@ -111,7 +111,7 @@ set_same (x ∷ xs) zero m there = let same : x ≡ m = cc there in ap (λ (y : 
 set_same (x ∷ xs) (suc n) m there = ap (λ (ys : List Mapping). x ∷ ys) (set_same xs n m there)
 
 -- what is taken back has the shapes of before
-narrow_back_one : (w : Change) (maps : List Mapping) → AllByRecursion IsNarrow maps → AllByRecursion IsNarrow (taken_back w maps)
+narrow_back_one : (w : Write) (maps : List Mapping) → AllByRecursion IsNarrow maps → AllByRecursion IsNarrow (taken_back w maps)
 narrow_back_one w maps narrow = by (mapping_at maps w.map) refl
   where
     of : (m : Mapping) (old : Option (List ℕ)) → IsNarrow m → IsNarrow (restored m w.key old)
@@ -122,11 +122,11 @@ narrow_back_one w maps narrow = by (mapping_at maps w.map) refl
     by None is = narrow
     by (Some m) is = all_set IsNarrow maps w.map (restored m w.key w.old) (of m w.old (all_at IsNarrow maps w.map m is narrow)) narrow
 
-narrow_back : (ws : List Change) (maps : List Mapping) → AllByRecursion IsNarrow maps → AllByRecursion IsNarrow (all_taken_back ws maps)
+narrow_back : (ws : List Write) (maps : List Mapping) → AllByRecursion IsNarrow maps → AllByRecursion IsNarrow (all_taken_back ws maps)
 narrow_back [] maps narrow = narrow
 narrow_back (w ∷ ws) maps narrow = narrow_back_one w (all_taken_back ws maps) (narrow_back ws maps narrow)
 
-pub undoable_undone : (ws vs : List Change) (maps after : List Mapping) → IsUndoable ws maps → vs ≡ [] → after ≡ all_taken_back ws maps → IsUndoable vs after
+pub undoable_undone : (ws vs : List Write) (maps after : List Mapping) → IsUndoable ws maps → vs ≡ [] → after ≡ all_taken_back ws maps → IsUndoable vs after
 undoable_undone ws vs maps after undoable none is = rw (none, is) (record { back = tt; narrow = narrow_back ws maps undoable.narrow; budget = omega arith })
 
 -- a write that was done can be taken back
@@ -157,10 +157,10 @@ below_budget : (n : ℕ) → nat_le budget n ≡ false → n < 64
 below_budget n more = omega (arith, leb-false)
 
 -- what a write that was done leaves
-wrote : (ws : List Change) (maps : List Mapping) (n : ℕ) (m after : Mapping) (k : List ℕ) → IsUndoable ws maps → slice_get maps n ≡ Some m → restored after k (value_in m k) ≡ m → IsNarrow after → CanTakeBack (record { map = n; key = k; old = value_in m k }) (slice_set maps n after) → length ws < 64
+wrote : (ws : List Write) (maps : List Mapping) (n : ℕ) (m after : Mapping) (k : List ℕ) → IsUndoable ws maps → slice_get maps n ≡ Some m → restored after k (value_in m k) ≡ m → IsNarrow after → CanTakeBack (record { map = n; key = k; old = value_in m k }) (slice_set maps n after) → length ws < 64
     → IsUndoable (ws ++ record { map = n; key = k; old = value_in m k } ∷ []) (slice_set maps n after)
 wrote ws maps n m after k undoable there back narrow can less =
-    let w : Change = record { map = n; key = k; old = value_in m k } in
+    let w : Write = record { map = n; key = k; old = value_in m k } in
     record {
       back = can_push ws w (slice_set maps n after) (subst (CanTakeAllBack ws) (sym (one_back maps n m after k (value_in m k) there back)) undoable.back) can;
       narrow = all_set IsNarrow maps n after narrow undoable.narrow;
@@ -168,10 +168,10 @@ wrote ws maps n m after k undoable there back narrow can less =
     }
 
 -- the maps as at the begin stay, and one write more stands in the journal
-wrote_seen : (is_open : Bool) (ws : List Change) (maps : List Mapping) (n : ℕ) (m after : Mapping) (k : List ℕ) → is_open ≡ true → slice_get maps n ≡ Some m → restored after k (value_in m k) ≡ m
+wrote_seen : (is_open : Bool) (ws : List Write) (maps : List Mapping) (n : ℕ) (m after : Mapping) (k : List ℕ) → is_open ≡ true → slice_get maps n ≡ Some m → restored after k (value_in m k) ≡ m
     → seen is_open (ws ++ record { map = n; key = k; old = value_in m k } ∷ []) (slice_set maps n after) ≡ written (seen is_open ws maps) (slice_set maps n after)
 wrote_seen is_open ws maps n m after k opened there back =
-    let w : Change = record { map = n; key = k; old = value_in m k } in
+    let w : Write = record { map = n; key = k; old = value_in m k } in
     let began : all_taken_back (ws ++ w ∷ []) (slice_set maps n after) ≡ all_taken_back ws maps =
     all_back_push ws w (slice_set maps n after) ∙ ap (all_taken_back ws) (one_back maps n m after k (value_in m k) there back) in
     let count : length (ws ++ w ∷ []) ≡ length ws + 1 = simp length-append in
@@ -200,14 +200,14 @@ remove_done writes m k done = by (nat_le budget writes) (is_some (value_in m k))
     by false false is e = absurd (cc e)
 
 -- what every write leaves, done or not
-pub put_undoable : (ws js : List Change) (maps : List Mapping) (n : ℕ) (m t : Mapping) (k v : List ℕ) (answer : Put) → IsUndoable ws maps → slice_get maps n ≡ Some m → IsMapping m → length k ≡ m.shape.key → answer ≡ put_answer (length ws) m k
+pub put_undoable : (ws js : List Write) (maps : List Mapping) (n : ℕ) (m t : Mapping) (k v : List ℕ) (answer : Put) → IsUndoable ws maps → slice_get maps n ≡ Some m → IsMapping m → length k ≡ m.shape.key → answer ≡ put_answer (length ws) m k
     → t ≡ when_done (was_put answer) (put_in m k v) m → js ≡ when_done (was_put answer) (ws ++ record { map = n; key = k; old = value_in m k } ∷ []) ws → IsUndoable js (slice_set maps n t)
 put_undoable ws js maps n m t k v puts.Done undoable there kept width answer table journal =
     rw (table, journal) (wrote ws maps n m (put_in m k v) k undoable there (undo_put m k v (value_in m k) kept refl) (narrow_put m k v (all_at IsNarrow maps n m there undoable.narrow)) (can_put maps n m k v there kept width) (below_budget (length ws) (put_done (length ws) m k (sym answer))))
 put_undoable ws js maps n m t k v puts.Full undoable there kept width answer table journal = rw (table, journal, set_same maps n m there) undoable
 put_undoable ws js maps n m t k v puts.Budget undoable there kept width answer table journal = rw (table, journal, set_same maps n m there) undoable
 
-pub put_seen : (is_open : Bool) (ws js : List Change) (maps : List Mapping) (n : ℕ) (m t : Mapping) (k v : List ℕ) (answer : Put) → is_open ≡ true → slice_get maps n ≡ Some m → IsMapping m
+pub put_seen : (is_open : Bool) (ws js : List Write) (maps : List Mapping) (n : ℕ) (m t : Mapping) (k v : List ℕ) (answer : Put) → is_open ≡ true → slice_get maps n ≡ Some m → IsMapping m
     → t ≡ when_done (was_put answer) (put_in m k v) m → js ≡ when_done (was_put answer) (ws ++ record { map = n; key = k; old = value_in m k } ∷ []) ws → seen is_open js (slice_set maps n t) ≡ after_put (seen is_open ws maps) n m k v answer
 put_seen is_open ws js maps n m t k v puts.Done opened there kept table journal = rw (table, journal) (wrote_seen is_open ws maps n m (put_in m k v) k opened there (undo_put m k v (value_in m k) kept refl))
 put_seen is_open ws js maps n m t k v puts.Full opened there kept table journal = rw (table, journal, set_same maps n m there) refl
@@ -220,7 +220,7 @@ some_value (Some w) some = (w, refl)
 undo_taken : (m : Mapping) (k : List ℕ) → IsMapping m → IsSome (value_in m k) → restored (taken_from m k) k (value_in m k) ≡ m
 undo_taken m k kept some = let at = some_value (value_in m k) some in rw at.1 (undo_remove m k at.0 kept at.1)
 
-pub remove_undoable : (ws js : List Change) (maps : List Mapping) (n : ℕ) (m t : Mapping) (k : List ℕ) (answer : Remove) → IsUndoable ws maps → slice_get maps n ≡ Some m → IsMapping m → length k ≡ m.shape.key → answer ≡ remove_answer (length ws) m k
+pub remove_undoable : (ws js : List Write) (maps : List Mapping) (n : ℕ) (m t : Mapping) (k : List ℕ) (answer : Remove) → IsUndoable ws maps → slice_get maps n ≡ Some m → IsMapping m → length k ≡ m.shape.key → answer ≡ remove_answer (length ws) m k
     → t ≡ when_done (was_removed answer) (taken_from m k) m → js ≡ when_done (was_removed answer) (ws ++ record { map = n; key = k; old = value_in m k } ∷ []) ws → IsUndoable js (slice_set maps n t)
 remove_undoable ws js maps n m t k removes.Done undoable there kept width answer table journal =
     let done = remove_done (length ws) m k (sym answer) in
@@ -229,7 +229,7 @@ remove_undoable ws js maps n m t k removes.Done undoable there kept width answer
 remove_undoable ws js maps n m t k removes.Absent undoable there kept width answer table journal = rw (table, journal, set_same maps n m there) undoable
 remove_undoable ws js maps n m t k removes.Budget undoable there kept width answer table journal = rw (table, journal, set_same maps n m there) undoable
 
-pub remove_seen : (is_open : Bool) (ws js : List Change) (maps : List Mapping) (n : ℕ) (m t : Mapping) (k : List ℕ) (answer : Remove) → is_open ≡ true → slice_get maps n ≡ Some m → IsMapping m → answer ≡ remove_answer (length ws) m k
+pub remove_seen : (is_open : Bool) (ws js : List Write) (maps : List Mapping) (n : ℕ) (m t : Mapping) (k : List ℕ) (answer : Remove) → is_open ≡ true → slice_get maps n ≡ Some m → IsMapping m → answer ≡ remove_answer (length ws) m k
     → t ≡ when_done (was_removed answer) (taken_from m k) m → js ≡ when_done (was_removed answer) (ws ++ record { map = n; key = k; old = value_in m k } ∷ []) ws → seen is_open js (slice_set maps n t) ≡ after_remove (seen is_open ws maps) n m k answer
 remove_seen is_open ws js maps n m t k removes.Done opened there kept answer table journal = rw (table, journal) (wrote_seen is_open ws maps n m (taken_from m k) k opened there (undo_taken m k kept (remove_done (length ws) m k (sym answer)).1))
 remove_seen is_open ws js maps n m t k removes.Absent opened there kept answer table journal = rw (table, journal, set_same maps n m there) refl
@@ -242,7 +242,7 @@ narrow_empty (s ∷ shapes) ranges = (record { key = upper 64 s.key ranges.0.0; 
     upper : (most n : ℕ) → IsTrue (is_from_1_to most n) → n ≤ most
     upper most n is = grind (arith, nat_tests)
 
-pub undoable_empty : (ws : List Change) (maps : List Mapping) (shapes : List MapShape) → AreWithinLimits shapes → ws ≡ [] → maps ≡ empty_maps shapes → IsUndoable ws maps
+pub undoable_empty : (ws : List Write) (maps : List Mapping) (shapes : List MapShape) → AreWithinLimits shapes → ws ≡ [] → maps ≡ empty_maps shapes → IsUndoable ws maps
 undoable_empty ws maps shapes limits none is = rw (none, is) (record { back = tt; narrow = narrow_empty shapes limits.ranges; budget = omega arith })
 
 -- a run is open where the maps as at its begin are seen
@@ -258,7 +258,7 @@ shapes_set (x ∷ xs) zero m t there same =
     ap (λ (s : MapShape). s ∷ shapes_of xs) (same ∙ ap (λ (y : Mapping). y.shape) (sym is))
 shapes_set (x ∷ xs) (suc n) m t there same = ap (λ (ss : List MapShape). x.shape ∷ ss) (shapes_set xs n m t there same)
 
-shapes_back_one : (w : Change) (maps : List Mapping) → shapes_of (taken_back w maps) ≡ shapes_of maps
+shapes_back_one : (w : Write) (maps : List Mapping) → shapes_of (taken_back w maps) ≡ shapes_of maps
 shapes_back_one w maps = by (mapping_at maps w.map) refl
   where
     of : (m : Mapping) (old : Option (List ℕ)) → (restored m w.key old).shape ≡ m.shape
@@ -269,11 +269,11 @@ shapes_back_one w maps = by (mapping_at maps w.map) refl
     by None is = refl
     by (Some m) is = shapes_set maps w.map m (restored m w.key w.old) is (of m w.old)
 
-shapes_back : (ws : List Change) (maps : List Mapping) → shapes_of (all_taken_back ws maps) ≡ shapes_of maps
+shapes_back : (ws : List Write) (maps : List Mapping) → shapes_of (all_taken_back ws maps) ≡ shapes_of maps
 shapes_back [] maps = refl
 shapes_back (w ∷ ws) maps = shapes_back_one w (all_taken_back ws maps) ∙ shapes_back ws maps
 
-pub undone_shapes : (ws : List Change) (maps after : List Mapping) → after ≡ all_taken_back ws maps → shapes_of after ≡ shapes_of maps
+pub undone_shapes : (ws : List Write) (maps after : List Mapping) → after ≡ all_taken_back ws maps → shapes_of after ≡ shapes_of maps
 undone_shapes ws maps after is = ap shapes_of is ∙ shapes_back ws maps
 
 pub put_shapes : (maps : List Mapping) (n : ℕ) (m t : Mapping) (k v : List ℕ) (answer : Put) → slice_get maps n ≡ Some m → t ≡ when_done (was_put answer) (put_in m k v) m → shapes_of (slice_set maps n t) ≡ shapes_of maps

@@ -88,3 +88,14 @@ without_right n q more rising = middle.without_greater key_cmp nat_list_cmp_tota
 -- two keys of one order are the same octets
 pub same_key : (n : Node) (q : List ℕ) → key_cmp q n.key.items ≡ Equal → n.key.items ≡ q
 same_key n q same = sym (exact_bytes q n.key.items same)
+
+-- the sides of a node, and what each call does there
+pub ruleset sides = (smaller_left, smaller_right, left_rises, right_rises)
+
+pub ruleset look_up = (sides, value_left, value_here, value_right)
+
+pub ruleset walk = (sides, first_below, after_left, after_here, after_right)
+
+pub ruleset write = (look_up, with_left, with_here, with_right)
+
+pub ruleset removal = (look_up, without_left, without_here, without_right, same_key)

@@ -8,7 +8,7 @@ use Rattle.xbgp_maps.specs.declared.shape.Remove.TheVariants as removes
 use Rattle.xbgp_maps.specs.Mappings.{Mapping, Journalled, mapping_at, value_in, put_in, taken_from, budget}
 
 -- a write: the map, the key, and the value that stood there before, or none
-pub record Change : Type 0 where
+pub record Write : Type 0 where
   pub map : ℕ
   pub key : List ℕ
   pub old : Option (List ℕ)
@@ -19,7 +19,7 @@ restored m key None = taken_from m key
 restored m key (Some value) = put_in m key value
 
 -- the maps as before a write
-abbrev pub taken_back : Change → List Mapping → List Mapping
+abbrev pub taken_back : Write → List Mapping → List Mapping
 taken_back w maps =
     elim (mapping_at maps w.map) [
       | None ↦ maps
@@ -27,17 +27,17 @@ taken_back w maps =
     ]
 
 -- the maps as before the first of some writes
-abbrev pub all_taken_back : List Change → List Mapping → List Mapping
+abbrev pub all_taken_back : List Write → List Mapping → List Mapping
 all_taken_back [] maps = maps
 all_taken_back (w ∷ ws) maps = taken_back w (all_taken_back ws maps)
 
 -- a write that can be taken back: the map is there, the widths are its own, and there is room
-pub record CanTakeBack (w : Change) (maps : List Mapping) : Type 0 where
+pub record CanTakeBack (w : Write) (maps : List Mapping) : Type 0 where
   pub exists : w.map < length maps
   pub fits : IsSomeAnd (mapping_at maps w.map) (λ m. (length w.key ≡ m.shape.key) × MatchOption w.old (Unit {0}) (λ value. (length value ≡ m.shape.value) × (value_in m w.key ≡ None → length m.entries < m.shape.entries)))
 
 -- each of some writes can be taken back, once those after it are
-abbrev pub CanTakeAllBack : List Change → List Mapping → Type 0
+abbrev pub CanTakeAllBack : List Write → List Mapping → Type 0
 CanTakeAllBack [] maps = Unit {0}
 CanTakeAllBack (w ∷ ws) maps = CanTakeAllBack ws maps × CanTakeBack w (all_taken_back ws maps)
 
@@ -47,7 +47,7 @@ pub record IsNarrow (m : Mapping) : Type 0 where
   pub value : m.shape.value ≤ 256
 
 -- what is seen of maps with a journal, while a run is open and while none is
-abbrev pub seen : Bool → List Change → List Mapping → Journalled
+abbrev pub seen : Bool → List Write → List Mapping → Journalled
 seen is_open ws maps = record {
   maps = maps;
   began = if is_open then Some (all_taken_back ws maps) else None;
@@ -55,15 +55,16 @@ seen is_open ws maps = record {
 }
 
 -- what maps with a journal keep
-pub record IsUndoable (ws : List Change) (maps : List Mapping) : Type 0 where
+pub record IsUndoable (ws : List Write) (maps : List Mapping) : Type 0 where
   pub back : CanTakeAllBack ws maps
   pub narrow : AllByRecursion IsNarrow maps
   pub budget : length ws ≤ budget
 
--- one map and the journal, after a write or a removal that was done or not
+-- what stands after a write: another value where it was done, and else the one before
 abbrev pub when_done : {A : Type 0} → Bool → A → A → A
 when_done done after before = if done then after else before
 
+-- the answers of writes that were done
 abbrev pub was_put : Put → Bool
 was_put puts.Done = true
 was_put puts.Full = false

@@ -54,6 +54,7 @@ empty_maps shapes = map (λ s. record { shape = s; entries = [] }) shapes
 abbrev pub shapes_of : List Mapping → List MapShape
 shapes_of maps = map (λ m. m.shape) maps
 
+-- the value at a key of one map
 abbrev pub value_in : Mapping → List ℕ → Option (List ℕ)
 value_in m key = value_at key_cmp m.entries key
 

@@ -12,6 +12,7 @@ pub record IsBlank (shape : MapShape) (n : Node) : Type 0 where
   pub value : length n.value.items ≡ shape.value
   pub alone : IsAlone n
 
+-- the map is one as it should be, and there are as many spare nodes as it may have more entries, with room for all nodes
 pub record IsTable (m : Mapping) (spare : List Node) (room : ℕ) : Type 0 where
   pub kept : IsMapping m
   pub count : length m.entries + length spare ≡ m.shape.entries

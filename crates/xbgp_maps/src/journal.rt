@@ -26,7 +26,7 @@ pub struct Change {
 
 impl Model for Change {
     ghost use Rattle.std.specs.Prelude.{◌≤◌, vec_capacity, Some, None, if◌then◌else◌};
-    ghost use Rattle.xbgp_maps.specs.Journals.{Change as Write};
+    ghost use Rattle.xbgp_maps.specs.Journals.{Write};
 
     ghost Value = { Write };
 
@@ -98,7 +98,7 @@ pub struct Journal {
 
 impl Model for Journal {
     ghost use Rattle.std.specs.Prelude.{◌≡◌, ◌≤◌, List, length, take};
-    ghost use Rattle.xbgp_maps.specs.Journals.{Change as Write};
+    ghost use Rattle.xbgp_maps.specs.Journals.{Write};
 
     ghost Value = { List Write };
 

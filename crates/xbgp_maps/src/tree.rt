@@ -9,7 +9,7 @@ use crate::node::{Node, Tree, balanced};
 use std::cmp::Ordering;
 
 /// The value at a key.
-#[tactic(auto, using(crate::proofs::Trees::smaller_left, crate::proofs::Trees::smaller_right, crate::proofs::Trees::left_rises, crate::proofs::Trees::right_rises, crate::proofs::Trees::value_left, crate::proofs::Trees::value_here, crate::proofs::Trees::value_right))]
+#[tactic(auto, using(crate::proofs::Trees::look_up))]
 pub fn find<'t>(tree: &'t Tree, key: &[u8]) -> Option<&'t [u8]>
     requires { IsRising key_cmp (entries_of tree.now) }
     ensures { option_map (λ v. v.now) result ≡ value_at key_cmp (entries_of tree.now) key.now }
@@ -28,7 +28,7 @@ pub fn find<'t>(tree: &'t Tree, key: &[u8]) -> Option<&'t [u8]>
 }
 
 /// The least key.
-#[tactic(auto, using(crate::proofs::Trees::smaller_left, crate::proofs::Trees::first_below))]
+#[tactic(auto, using(crate::proofs::Trees::walk))]
 pub fn first(tree: &Tree) -> Option<&[u8]>
     ensures { option_map (λ k. k.now) result ≡ option_map (λ e. e.0) (first_entry (entries_of tree.now)) }
 {
@@ -45,7 +45,7 @@ pub fn first(tree: &Tree) -> Option<&[u8]>
 }
 
 /// The least key that is greater than this one.
-#[tactic(auto, using(crate::proofs::Trees::smaller_left, crate::proofs::Trees::smaller_right, crate::proofs::Trees::left_rises, crate::proofs::Trees::right_rises, crate::proofs::Trees::after_left, crate::proofs::Trees::after_here, crate::proofs::Trees::after_right))]
+#[tactic(auto, using(crate::proofs::Trees::walk))]
 pub fn first_after<'t>(tree: &'t Tree, key: &[u8]) -> Option<&'t [u8]>
     requires { IsRising key_cmp (entries_of tree.now) }
     ensures { option_map (λ k. k.now) result ≡ option_map (λ e. e.0) (entry_after key_cmp (entries_of tree.now) (Some key.now)) }
@@ -74,7 +74,7 @@ pub fn copy_over(place: &mut Vec<u8>, octets: &[u8])
 }
 
 /// Writes over the value at a key that is there.
-#[tactic(auto, using(crate::proofs::Trees::smaller_left, crate::proofs::Trees::smaller_right, crate::proofs::Trees::left_rises, crate::proofs::Trees::right_rises, crate::proofs::Trees::values_left, crate::proofs::Trees::values_right, crate::proofs::Trees::values_here, crate::proofs::Trees::value_left, crate::proofs::Trees::value_right, crate::proofs::Trees::with_left, crate::proofs::Trees::with_here, crate::proofs::Trees::with_right))]
+#[tactic(auto, using(crate::proofs::Trees::write))]
 pub fn overwrite(tree: &mut Tree, key: &[u8], value: &[u8])
     requires rising { IsRising key_cmp (entries_of tree.old) }
     requires widths { HaveWidth (length value.now) (entries_of tree.old) }
@@ -91,7 +91,7 @@ pub fn overwrite(tree: &mut Tree, key: &[u8], value: &[u8])
     }
 }
 
-#[tactic(auto, using(crate::proofs::Trees::smaller_left, crate::proofs::Trees::smaller_right, crate::proofs::Trees::left_rises, crate::proofs::Trees::right_rises, crate::proofs::Trees::value_left, crate::proofs::Trees::value_here, crate::proofs::Trees::value_right, crate::proofs::Trees::with_left, crate::proofs::Trees::with_right))]
+#[tactic(auto, using(crate::proofs::Trees::write))]
 fn with_node(tree: Tree, new: Box<Node>) -> Tree
     requires rising { IsRising key_cmp (entries_of tree) }
     requires alone { IsAlone new.value }
@@ -158,7 +158,7 @@ fn joined(left: Tree, right: Tree) -> Tree
     }
 }
 
-#[tactic(auto, using(crate::proofs::Trees::smaller_left, crate::proofs::Trees::smaller_right, crate::proofs::Trees::left_rises, crate::proofs::Trees::right_rises, crate::proofs::Trees::value_left, crate::proofs::Trees::value_here, crate::proofs::Trees::value_right, crate::proofs::Trees::without_left, crate::proofs::Trees::without_here, crate::proofs::Trees::without_right, crate::proofs::Trees::same_key))]
+#[tactic(auto, using(crate::proofs::Trees::removal))]
 fn without_node(tree: Tree, key: &[u8]) -> (Tree, Option<Box<Node>>)
     requires { IsRising key_cmp (entries_of tree) }
     ensures entries { entries_of result.0 ≡ without key_cmp (entries_of tree) key.now }

@@ -1,0 +1,193 @@
+//! A plain Rust program of the job of crates/maps_bench: fills an ordered map of std and then does one job in it 1,048,576
+//! times over, with a journal of at most 64 writes, and prints a number that depends on all answers.
+
+use std::collections::BTreeMap;
+use std::env;
+use std::ops::Bound;
+use std::process::ExitCode;
+
+const RUNS: u32 = 16_384;
+const WRITES: u32 = 64;
+
+struct Change {
+    key: Vec<u8>,
+    old: Option<Vec<u8>>,
+}
+
+struct Bench {
+    map: BTreeMap<Vec<u8>, Vec<u8>>,
+    journal: Vec<Change>,
+    entries: u32,
+}
+
+fn key_of(number: u32) -> [u8; 8] {
+    u64::from(number)
+        .wrapping_mul(0x9E37_79B9_7F4A_7C15)
+        .to_be_bytes()
+}
+
+fn value_of(number: u32) -> [u8; 16] {
+    u128::from(number).to_be_bytes()
+}
+
+impl Bench {
+    fn put(&mut self, number: u32, value: u32) -> u64 {
+        let (key, value) = (key_of(number), value_of(value));
+        if self.journal.len() >= WRITES as usize {
+            return 0;
+        }
+        let is_full = self.map.len() >= self.entries as usize;
+        let old = match self.map.get_mut(&key[..]) {
+            Some(place) => {
+                let old = place.clone();
+                place.copy_from_slice(&value);
+                Some(old)
+            }
+            None if is_full => return 0,
+            None => {
+                self.map.insert(key.to_vec(), value.to_vec());
+                None
+            }
+        };
+        self.journal.push(Change {
+            key: key.to_vec(),
+            old,
+        });
+        1
+    }
+
+    fn remove(&mut self, number: u32) -> u64 {
+        let key = key_of(number);
+        if self.journal.len() >= WRITES as usize {
+            return 0;
+        }
+        let Some((key, old)) = self.map.remove_entry(&key[..]) else {
+            return 0;
+        };
+        self.journal.push(Change {
+            key,
+            old: Some(old),
+        });
+        1
+    }
+
+    fn undo(&mut self) {
+        while let Some(Change { key, old }) = self.journal.pop() {
+            match old {
+                Some(value) => self.map.insert(key, value),
+                None => self.map.remove(&key),
+            };
+        }
+    }
+
+    fn commit(&mut self) {
+        self.journal.clear();
+    }
+
+    fn get(&self, number: u32) -> u64 {
+        match self.map.get(&key_of(number)[..]) {
+            Some(value) => value.last().map_or(0, |octet| u64::from(*octet)),
+            None => 0,
+        }
+    }
+
+    fn number_at(&self, run: u32, write: u32) -> u32 {
+        run.wrapping_mul(WRITES)
+            .wrapping_add(write)
+            .wrapping_mul(40_503)
+            % self.entries
+    }
+
+    fn fill(&mut self) -> u64 {
+        let mut sum = 0;
+        for number in 0..self.entries {
+            sum += self.put(number, number);
+            self.commit();
+        }
+        sum
+    }
+
+    fn get_all(&self) -> u64 {
+        (0..RUNS)
+            .flat_map(|run| (0..WRITES).map(move |write| (run, write)))
+            .map(|(run, write)| self.get(self.number_at(run, write)))
+            .sum()
+    }
+
+    fn put_run(&mut self, run: u32) -> u64 {
+        (0..WRITES)
+            .map(|write| self.put(self.number_at(run, write), run))
+            .sum()
+    }
+
+    fn renew_run(&mut self, run: u32) -> u64 {
+        let mut sum = 0;
+        for write in 0..WRITES / 2 {
+            let number = self.number_at(run, write);
+            sum += self.remove(number);
+            sum += self.put(number, run);
+        }
+        sum
+    }
+
+    fn write_all(&mut self, job: &str) -> u64 {
+        let mut sum = 0;
+        for run in 0..RUNS {
+            if job == "new" {
+                sum += self.renew_run(run);
+            } else {
+                sum += self.put_run(run);
+            }
+            if job == "undo" {
+                self.undo();
+            } else {
+                self.commit();
+            }
+        }
+        sum
+    }
+
+    fn walk(&self) -> u64 {
+        let mut sum = 0;
+        let mut at = [0; 8];
+        for _ in 0..RUNS * WRITES {
+            match self
+                .map
+                .range::<[u8], _>((Bound::Excluded(&at[..]), Bound::Unbounded))
+                .next()
+            {
+                Some((key, _)) => {
+                    at.copy_from_slice(key);
+                    sum += u64::from(at[7]);
+                }
+                None => at = [0; 8],
+            }
+        }
+        sum
+    }
+}
+
+fn main() -> ExitCode {
+    let words: Vec<String> = env::args().skip(1).collect();
+    let [job, entries] = words.as_slice() else {
+        return ExitCode::from(2);
+    };
+    let Ok(entries @ 1..=65_536) = entries.parse() else {
+        return ExitCode::from(2);
+    };
+    let mut bench = Bench {
+        map: BTreeMap::new(),
+        journal: Vec::with_capacity(WRITES as usize),
+        entries,
+    };
+    let sum = bench.fill();
+    let sum = sum.wrapping_add(match job.as_str() {
+        "fill" => 0,
+        "get" => bench.get_all(),
+        "over" | "new" | "undo" => bench.write_all(job),
+        "walk" => bench.walk(),
+        _ => return ExitCode::from(2),
+    });
+    println!("{sum}");
+    ExitCode::SUCCESS
+}
