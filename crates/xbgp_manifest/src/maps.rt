@@ -1,9 +1,10 @@
 // The maps.
-ghost use Rattle.std.specs.Prelude.{◌≡◌, ◌<◌, ◌≤◌, ◌-◌, ◌^◌, length, map};
+ghost use Rattle.std.specs.Prelude.{◌≡◌, ◌<◌, ◌≤◌, ◌-◌, ◌*◌, ◌^◌, length, map};
 ghost use Rattle.std.specs.Result.{result_map_both};
 ghost use Rattle.toml.specs.View.{view, table_view};
 ghost use Rattle.xb_fields.specs.Fields.{entries};
 ghost use Rattle.xb_fields.specs.Outcomes.{Gives};
+ghost use Rattle.xbgp_maps.specs.Mappings.{entry_size};
 ghost use Rattle.xbgp_manifest.specs.Manifests.{map_fields, map_entry, map_shape, room_of};
 ghost use Rattle.xbgp_manifest.specs.Fields.{map_of};
 
@@ -76,6 +77,14 @@ pub(crate) fn read_maps(alloc: Global, values: &[Value]) -> Result<MapEntries, F
     Ok(MapEntries { items })
 }
 
+fn room_of_map(shape: MapShape) -> u64
+    ensures value { result ≡ shape.entries * entry_size shape }
+    ensures small { result < 2 ^ 49 }
+{
+    let entry_size = u64::from(shape.key) + u64::from(shape.value);
+    u64::from(shape.entries) * entry_size
+}
+
 /// The octets that all entries of maps may take together.
 pub(crate) fn room_of(maps: &[MapEntry]) -> u64
     requires { length maps.now ≤ 16 }
@@ -83,9 +92,7 @@ pub(crate) fn room_of(maps: &[MapEntry]) -> u64
 {
     let mut room = 0;
     for entry in maps {
-        let shape = entry.shape;
-        let entry_size = u64::from(shape.key) + u64::from(shape.value);
-        room += u64::from(shape.entries) * entry_size;
+        room += room_of_map(entry.shape);
     }
     room
 }
