@@ -1,5 +1,5 @@
 -- What is known of the answer to a configuration and a manifest.
-use Rattle.std.proofs.Common.{◌≡◌, ◌≢◌, refl, ap, ℕ, Bool, true, false, List, Option, Some, Ok, Err, if◌then◌else◌}
+use Rattle.std.proofs.Common.{◌≡◌, ◌≢◌, refl, ap, sym, subst, ℕ, Bool, true, false, List, Option, Some, Ok, Err, if◌then◌else◌}
 use Rattle.std.specs.Prelude.{Result, codes}
 use Rattle.std.specs.Option.{option_map}
 use Rattle.std.specs.Str.{bytes_eq}
@@ -10,7 +10,9 @@ use Rattle.xbgp_manifest.specs.declared.fault.ManifestFault.{ManifestFault}
 use Rattle.xbgp_manifest.specs.Manifests.{Manifest, manifest, no_manifest}
 use Rattle.xbgp_top.specs.declared.status.Status.TheVariants.{Usage, ReadFault}
 use Rattle.xbgp_top.specs.declared.status.File.TheVariants as inputs
-use Rattle.xbgp_top.specs.Answers.{Answer, command_answer, counts, given_config, given_manifest, with_config, with_input, with_manifest}
+use Rattle.xbgp_top.specs.Answers.{Answer, bad_manifest, command_answer, counts, given_config, given_manifest, with_config, with_input, with_manifest}
+use Rattle.xbgp_top.specs.declared.status.Status.{Status}
+use Rattle.xbgp_top.specs.Outputs.{Writes}
 use Rattle.xbgp_top.specs.Commands.{check}
 use Rattle.xbgp_top.specs.Top.{told_answer}
 
@@ -41,3 +43,9 @@ module _ (name : List ℕ) (go : Manifest → Answer) where
 pub is_of_manifest : (c : Config) (read : Result Manifest ManifestFault) → ((given_manifest (counts c) read).status ≢ ReadFault) × ((given_manifest (counts c) read).status ≢ Usage)
 is_of_manifest c (Ok m) = (λ e. cc e, λ e. cc e)
 is_of_manifest c (Err fault) = (λ e. cc e, λ e. cc e)
+
+-- the line of a refused manifest is what is answered to it
+pub refused_is_given : (c : Config) (read : Result Manifest ManifestFault) (fault : ManifestFault) (before now : Option (List ℕ)) (faults_before faults_now : ℕ) (status : Status)
+    → read ≡ Err fault → Writes (bad_manifest fault) before now faults_before faults_now status → Writes (given_manifest (counts c) read) before now faults_before faults_now status
+refused_is_given c read fault before now faults_before faults_now status e w =
+    subst (λ r. Writes (given_manifest (counts c) r) before now faults_before faults_now status) (sym e) w

@@ -1,17 +1,13 @@
--- Code that runs without helpers calls none.
+-- What is answered to bytecode that runs alone.
 use Rattle.std.proofs.Common.{◌≡◌, ℕ, Bool, false, List, ◌++◌, Option, None, Some, ◌∙◌, ap, sym, subst}
 use Rattle.xb_base.specs.Texts.{line}
 use Rattle.bpf_insn.specs.declared.fault.LoadFault.{LoadFault}
 use Rattle.bpf_insn.specs.Loading.{load_fault}
-use Rattle.bpf_insn.proofs.Faults.{call-allowed, load_fault-same}
-use Rattle.bpf_insn.specs.Sound.{CallsOnly}
+use Rattle.bpf_insn.proofs.Faults.{load_fault-same}
 use Rattle.xbgp_top.specs.declared.status.Status.{Status}
 use Rattle.xbgp_top.specs.declared.status.Status.TheVariants.{Done}
 use Rattle.xbgp_top.specs.Answers.{Answer, alone, answered, bad_code, end_line, end_words, exec_answer, no_helper}
 use Rattle.xbgp_top.specs.Outputs.{Writes}
-
-pub calls_none : (code : List ℕ) → load_fault no_helper code ≡ None → CallsOnly (λ n. false) code
-calls_none code e = record { each = λ i b c. call-allowed no_helper code e i b c }
 
 -- a set without a number allows what is allowed where nothing is
 pub none_allowed : (allowed : ℕ → Bool) (code : List ℕ) → ((n : ℕ) → allowed n ≡ false) → load_fault allowed code ≡ load_fault no_helper code

@@ -1,32 +1,44 @@
-ghost use Rattle.std.specs.Prelude.{◌≡◌, ◌≢◌, ◌+◌, ◌≤◌, ◌++◌, length, Some, IfOk};
+ghost use Rattle.std.specs.Prelude.{◌≡◌, ◌≢◌, ◌+◌, ◌≤◌, ◌++◌, ◌∷◌, [], length, codes, decimal, Some, IfOk};
 ghost use Rattle.std.specs.Option.{option_map};
+ghost use Rattle.std.specs.Str.{bytes_eq};
+ghost use Rattle.xb_base.specs.Texts.{spaced};
 ghost use Rattle.xbgp_config.specs.Configs.{config};
 ghost use Rattle.xbgp_manifest.specs.Manifests.{manifest, no_manifest};
 ghost use Rattle.xbgp_top.specs.Answers.{bad_config, bad_manifest, count_line, counts, given_config, given_manifest, with_manifest};
 ghost use Rattle.xbgp_top.specs.Commands.{check};
 ghost use Rattle.xbgp_top.specs.Top.{Explains, told_answer};
 ghost use Rattle.xbgp_top.specs.Outputs.{Writes};
+ghost use Rattle.xbgp_top.specs.Words.{kind_word, part_word};
 
 use crate::input::read_input;
 use crate::output::{not_read, say};
 use crate::word::{kind_word, part_word};
 use crate::{File, Status};
 use std::alloc::{AllocError, Global};
-use xb_base::{Buf, Shelf, Sink, push_decimal};
+use xb_base::{BadKind, Buf, Part, Shelf, Sink, push_decimal};
 use xbgp_config::{Config, ConfigError, ConfigFault, read_config};
 use xbgp_manifest::{Manifest, ManifestError, ManifestFault, read_manifest};
+
+// Appends what is wrong, in which part and at which entry, for which there is room.
+fn push_place(line: &mut Buf, kind: BadKind, part: Part, index: u32)
+    requires { length line.old.octets + 40 ≤ line.old.capacity }
+    ensures place { line.new ≡ record line.old { octets = line.old.octets ++ spaced (kind_word kind ∷ part_word part ∷ decimal index ∷ []) } }
+    ensures grown { length line.new.octets ≤ length line.old.octets + 40 }
+{
+    let _ = line.push(kind_word(kind));
+    let _ = line.push(b" ");
+    let _ = line.push(part_word(part));
+    let _ = line.push(b" ");
+    let _ = push_decimal(line, u64::from(index));
+}
 
 // The line of a configuration that is refused.
 fn config_refusal(alloc: Global, fault: ConfigFault) -> Result<Buf, AllocError>
     ensures { IfOk result (λ line. line.octets ≡ (bad_config fault).text) }
 {
-    let mut line = Buf::make(alloc, 64)?;
+    let mut line = Buf::make(alloc, 80)?;
     let _ = line.push(b"fault config ");
-    let _ = line.push(kind_word(fault.kind));
-    let _ = line.push(b" ");
-    let _ = line.push(part_word(fault.part));
-    let _ = line.push(b" ");
-    let _ = push_decimal(&mut line, u64::from(fault.index));
+    push_place(&mut line, fault.kind, fault.part, fault.index);
     let _ = line.push(b"\n");
     Ok(line)
 }
@@ -47,11 +59,7 @@ fn manifest_refusal(alloc: Global, fault: ManifestFault) -> Result<Buf, AllocErr
 {
     let mut line = Buf::make(alloc, 80)?;
     let _ = line.push(b"fault manifest ");
-    let _ = line.push(kind_word(fault.kind));
-    let _ = line.push(b" ");
-    let _ = line.push(part_word(fault.part));
-    let _ = line.push(b" ");
-    let _ = push_decimal(&mut line, u64::from(fault.index));
+    push_place(&mut line, fault.kind, fault.part, fault.index);
     let _ = line.push(b" ");
     let _ = push_decimal(&mut line, u64::from(fault.slot));
     let _ = line.push(b"\n");
@@ -130,6 +138,13 @@ fn print_checked<K: Sink>(alloc: Global, config: &Config, text: &[u8], sink: &mu
     }
 }
 
+// Whether a name stands for no manifest.
+fn is_none(name: &str) -> bool
+    ensures { result ≡ bytes_eq name.now (codes "-") }
+{
+    name == "-"
+}
+
 // Reads a manifest and writes the counts.
 fn check_manifest<S: Shelf, K: Sink>(
     alloc: Global,
@@ -141,7 +156,7 @@ fn check_manifest<S: Shelf, K: Sink>(
     ensures explains { Explains (option_map (λ files. with_manifest files name.now (counts config.now)) (S.held shelf.old)) (S.faults shelf.old) (S.faults shelf.new) (K.faults sink.old) (K.faults sink.new) (K.took sink.old) (K.took sink.new) result }
     ensures command { result ≢ Status.Usage }
 {
-    if name == "-" {
+    if is_none(name) {
         return print_alone(alloc, config, sink);
     }
     match read_input(alloc, shelf, name) {

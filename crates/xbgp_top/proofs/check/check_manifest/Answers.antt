@@ -15,6 +15,6 @@ returns-in-Ok-clause-explains g c =
     let text = c.deref.result.now in
     let whole : IsWhole held name text = subst (λ (s : List ℕ). IsWhole held name s) (sym c.deref.ensures.value) c.in-Ok.ensures.whole in
     explains_as _ _ _ _ _ _ _ _ c.print_checked.result
-    (named_is_told name go held ? ∙ whole_is_told Manifest name (λ files text. given_manifest go (manifest text)) held text whole)
+    (named_is_told name go held (sym c.is_none.ensures ∙ c.if-is_none.false) ∙ whole_is_told Manifest name (λ files text. given_manifest go (manifest text)) held text whole)
     (explains_written _ (given_manifest go (manifest text)) _ _ _ _ _ _ c.print_checked.result (same_for_all (given_manifest go (manifest text)) held)
       c.in-Ok.ensures.same (is_of_manifest c.args.config.now (manifest text)).0 c.print_checked.ensures)

@@ -8,13 +8,13 @@ use Rattle.xbgp_top.proofs.check.check_text.Goals as goal
 pub returns-in-Ok-clause-explains : goal.returns-in-Ok-clause-explains
 returns-in-Ok-clause-explains g c =
     explains_as _ _ _ _ _ _ _ _ c.check_manifest.result
-    (config_is_told (λ files c. with_manifest files c.args.manifest.now (counts c)) (g.S.Shelf.held c.args.shelf.now) (config c.args.text.now) _ c.in-Ok.ensures.good)
+    (config_is_told (λ files x. with_manifest files c.args.manifest.now (counts x)) (g.S.Shelf.held c.args.shelf.now) (config c.args.text.now) _ c.in-Ok.ensures.good)
     c.check_manifest.ensures.explains
 
 pub returns-in-Err-Bad-clause-explains : goal.returns-in-Err-Bad-clause-explains
 returns-in-Err-Bad-clause-explains g c =
     let held = g.S.Shelf.held c.args.shelf.now in
     explains_as _ _ _ _ _ _ _ _ c.refuse_config.result
-    (config_is_told (λ files c. with_manifest files c.args.manifest.now (counts c)) held (config c.args.text.now) _
+    (config_is_told (λ files x. with_manifest files c.args.manifest.now (counts x)) held (config c.args.text.now) _
       (c.in-Err-Bad.ensures.bad c.in-Err-Bad.fault (ap Err c.in-Err-Bad.field-0-is)))
     (explains_written _ (bad_config c.in-Err-Bad.fault) _ _ _ _ _ _ c.refuse_config.result (same_for_all (bad_config c.in-Err-Bad.fault) held) refl (λ e. cc e) c.refuse_config.ensures)

@@ -1,5 +1,6 @@
-use Rattle.xbgp_top.proofs.ExecLemmas.{calls_none}
+use Rattle.bpf_insn.proofs.Faults.{calls_only}
+use Rattle.xbgp_top.specs.Answers.{no_helper}
 use Rattle.xbgp_top.proofs.exec.run_alone.Goals as goal
 
 pub run-requires : goal.run-requires
-run-requires c = calls_none c.args.code.now c.requires
+run-requires c = calls_only no_helper c.args.code.now c.requires
