@@ -1,0 +1,5 @@
+pub mod Handed
+pub mod Rooms
+pub mod Names
+pub mod Kept
+pub mod Faults

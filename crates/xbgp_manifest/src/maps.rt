@@ -1,0 +1,98 @@
+// The maps.
+ghost use Rattle.std.specs.Prelude.{◌≡◌, ◌<◌, ◌≤◌, ◌-◌, ◌*◌, ◌^◌, length, map};
+ghost use Rattle.std.specs.Result.{result_map_both};
+ghost use Rattle.toml.specs.View.{view, table_view};
+ghost use Rattle.xb_fields.specs.Fields.{entries};
+ghost use Rattle.xb_fields.specs.Outcomes.{Gives};
+ghost use Rattle.xbgp_maps.specs.Mappings.{entry_size};
+ghost use Rattle.xbgp_manifest.specs.Manifests.{map_fields, map_entry, map_shape, room_of};
+ghost use Rattle.xbgp_manifest.specs.Fields.{map_of};
+
+use crate::entries::{MapEntries, MapEntry};
+use crate::name::{Name, required_name};
+use indexmap::IndexSet;
+use std::alloc::Global;
+use toml::{Table, Value};
+use xb_base::{BadKind, Part};
+use xb_fields::{Bad, FieldError, Place, required_number, table_with};
+use xbgp_maps::MapShape;
+
+/// What a map's table says.
+#[derive(Clone, Copy)]
+pub(crate) struct MapFields<'a> {
+    pub name: &'a str,
+    pub shape: MapShape,
+}
+
+#[tactic(auto, unfolding(crate::specs::Manifests::map_shape))]
+fn map_shape(at: Place, table: &Table) -> Result<MapShape, Bad>
+    ensures { result ≡ map_shape at (table_view table.now) }
+{
+    let key = required_number(at, "key", 1, 64, table)?;
+    let value = required_number(at, "value", 1, 256, table)?;
+    let entries = required_number(at, "entries", 1, 65536, table)?;
+    Ok(MapShape {
+        key: key as u16,
+        value: value as u16,
+        entries,
+    })
+}
+
+#[tactic(auto, unfolding(crate::specs::Manifests::map_fields))]
+fn map_fields(index: u32, value: &Value) -> Result<MapFields<'_>, Bad>
+    ensures { result_map_both (λ f. map_of f) (λ bad. bad) result ≡ map_fields index (view value.now) }
+{
+    let at = Place {
+        part: Part::Map,
+        index,
+    };
+    let table = table_with(at, &["name", "key", "value", "entries"], value)?;
+    let name = required_name(at, table)?;
+    let shape = map_shape(at, table)?;
+    Ok(MapFields { name, shape })
+}
+
+/// Reads the maps, whose names differ.
+pub(crate) fn read_maps(alloc: Global, values: &[Value]) -> Result<MapEntries, FieldError>
+    requires { length values.now < 2 ^ 32 - 1 }
+    ensures { Gives result (entries map_entry (map view values.now)) }
+{
+    let mut names = IndexSet::new(alloc);
+    let mut items = Vec::new(alloc);
+    for (i, value) in values.iter().enumerate() {
+        let index = i as u32 + 1;
+        let fields = map_fields(index, value)?;
+        if !names.insert(fields.name)? {
+            let at = Place {
+                part: Part::Map,
+                index,
+            };
+            return Err(at.bad(BadKind::Double).into());
+        }
+        items.push(MapEntry {
+            name: Name::of(alloc, fields.name)?,
+            shape: fields.shape,
+        })?;
+    }
+    Ok(MapEntries { items })
+}
+
+fn room_of_map(shape: MapShape) -> u64
+    ensures value { result ≡ shape.entries * entry_size shape }
+    ensures small { result < 2 ^ 49 }
+{
+    let entry_size = u64::from(shape.key) + u64::from(shape.value);
+    u64::from(shape.entries) * entry_size
+}
+
+/// The octets that all entries of maps may take together.
+pub(crate) fn room_of(maps: &[MapEntry]) -> u64
+    requires { length maps.now ≤ 16 }
+    ensures { result ≡ room_of maps.now }
+{
+    let mut room = 0;
+    for entry in maps {
+        room += room_of_map(entry.shape);
+    }
+    room
+}
