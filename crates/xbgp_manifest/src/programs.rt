@@ -26,11 +26,7 @@ pub(crate) struct ProgramFields<'a> {
     pub octets: Vec<u8>,
 }
 
-fn program_fields(
-    alloc: Global,
-    index: u32,
-    value: &Value,
-) -> Result<ProgramFields<'_>, FieldError>
+fn program_fields(alloc: Global, index: u32, value: &Value) -> Result<ProgramFields<'_>, FieldError>
     ensures { Gives (result_map_both (λ f. program_of f) (λ e. e) result) (program_fields index (view value.now)) }
 {
     let at = Place {

@@ -34,9 +34,9 @@ loop-i-preserved c =
     let none = sym (met_name (λ m. m.name) c.in_ok-fields.fields.name c.loop-i.names.keys c.loop-i.items.items c.loop-i.invariant.names) ∙ new in
     record {
       rest =
-        rw pushed
-        (entries_more map_entry c.args.values.now c.loop-i.i c.index-values-i.result c.loop-i.items.items entry _ (omega arith) c.index-values-i.is
-        (map_new (c.loop-i.i + 1) c.loop-i.items.items (view c.index-values-i.result) entry (sym c.in_ok-fields.ensures) none)
-        c.loop-i.invariant.rest);
+          rw pushed
+          (entries_more map_entry c.args.values.now c.loop-i.i c.index-values-i.result c.loop-i.items.items entry _ (omega arith) c.index-values-i.is
+          (map_new (c.loop-i.i + 1) c.loop-i.items.items (view c.index-values-i.result) entry (sym c.in_ok-fields.ensures) none)
+          c.loop-i.invariant.rest);
       names = rw pushed (met_more (λ m. m.name) c.in_ok-fields.fields.name c.loop-i.names.keys c.loop-i.items.items c.loop-i.invariant.names c.insert.new.self.keys entry c.in_ok-insert.ensures.keys new refl);
     }

@@ -6,7 +6,7 @@ use Rattle.xbgp_manifest.proofs.maps.room_of.Goals as goal
 pub loop-entry-preserved : goal.loop-entry-preserved
 loop-entry-preserved c = record {
   room =
-    rw (c.loop-entry.invariant.room, c.room_of_map-room.ensures.value)
-    (sym (sum_by-more (λ s. s.entries * entry_size s) (λ m. m.shape) c.args.maps.now c.loop-entry.entry-index c.entry-item.result (omega arith) c.entry-item.is));
+      rw (c.loop-entry.invariant.room, c.room_of_map-room.ensures.value)
+      (sym (sum_by-more (λ s. s.entries * entry_size s) (λ m. m.shape) c.args.maps.now c.loop-entry.entry-index c.entry-item.result (omega arith) c.entry-item.is));
   small = omega (arith, c.loop-entry.invariant.small, c.room_of_map-room.ensures.small);
 }
