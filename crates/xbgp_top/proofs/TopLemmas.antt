@@ -14,14 +14,14 @@ use Rattle.xbgp_top.specs.Inputs.{IsWhole, IsLong, IsUnread}
 use Rattle.xbgp_top.specs.declared.status.File.{File}
 use Rattle.xbgp_top.specs.declared.status.File.TheVariants.{Input}
 use Rattle.xbgp_top.specs.declared.status.Status.{Status}
-use Rattle.xbgp_top.specs.declared.status.Status.TheVariants.{Done, Usage, ReadFault, WriteFault, OutOfMemory, TooLong}
+use Rattle.xbgp_top.specs.declared.status.Status.TheVariants.{Done, Usage, ReadFault, WriteFault, OutOfMemory}
 use Rattle.xbgp_top.specs.declared.command.Job.{Job}
 use Rattle.xbgp_top.specs.declared.command.Job.TheVariants.{Heard, Judge, Exec}
 use Rattle.xbgp_top.specs.Answers.{Answer, answered, answer, command_answer, job_answer, judge_line, messages_of, place_of_rest, usage_answer, input_limit, long_answer, with_input, alone, bad_code, end_words, no_helper, bad_stream, table_lines, end_line}
 use Rattle.xbgp_top.specs.Commands.{on_file, command_of}
 use Rattle.xbgp_top.specs.Outputs.{Stopped, Writes}
 use Rattle.xbgp_top.specs.Top.{Explains, IsAnswered, SaysMissing, told_answer}
-use Rattle.std.specs.Prelude.{codes, ◌∷◌, ◌++◌}
+use Rattle.std.specs.Prelude.{◌++◌}
 
 -- the answer that is known is the one that was written
 pub explains_written : (told : Option Answer) (a : Answer) (reads_before reads_now writes_before writes_now : ℕ) (before now : Option (List ℕ)) (status : Status)

@@ -1,5 +1,5 @@
 -- What was read of an input.
-use Rattle.std.specs.Prelude.{◌≡◌, ◌⊎◌, ℕ, ◌<◌, ◌≤◌, List, [], length, take, Option, Some, None, Result, Ok, Err, MatchOption}
+use Rattle.std.specs.Prelude.{◌≡◌, ◌⊎◌, ℕ, ◌<◌, ◌≤◌, List, [], length, take, Option, Some, None, MatchOption}
 use Rattle.xb_base.specs.Causes.{Files, file_named, Rose, IsMissing}
 use Rattle.xbgp_top.specs.Answers.{input_limit}
 use Rattle.xbgp_top.specs.declared.input.Unread.{Unread}

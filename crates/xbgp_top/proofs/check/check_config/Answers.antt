@@ -17,7 +17,7 @@ returns-in-Ok-clause-explains g c =
     explains_as _ _ _ _ _ _ _ _ c.check_text.result
     (check_is_told name other held ∙ whole_is_told Config name (λ files text. given_config (λ c. with_manifest files other (counts c)) (config text)) held text whole)
     (explains_after (λ files. given_config (λ c. with_manifest files other (counts c)) (config text)) held _ _ _ _ _ _ _ _ c.check_text.result
-      c.in-Ok.ensures.held c.in-Ok.ensures.same c.check_text.ensures.explains)
+    c.in-Ok.ensures.held c.in-Ok.ensures.same c.check_text.ensures.explains)
 
 pub returns-in-Err-clause-explains : goal.returns-in-Err-clause-explains
 returns-in-Err-clause-explains g c =

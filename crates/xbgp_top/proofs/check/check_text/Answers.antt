@@ -1,7 +1,7 @@
-use Rattle.std.proofs.Common.{◌∙◌, refl, ap, sym, Ok, Err}
+use Rattle.std.proofs.Common.{refl, ap, Err}
 use Rattle.xbgp_config.specs.Configs.{config}
 use Rattle.xbgp_top.specs.Answers.{bad_config, counts, with_manifest}
-use Rattle.xbgp_top.proofs.TopLemmas.{explains_as, explains_memory, explains_written, same_for_all}
+use Rattle.xbgp_top.proofs.TopLemmas.{explains_as, explains_written, same_for_all}
 use Rattle.xbgp_top.proofs.CheckLemmas.{config_is_told}
 use Rattle.xbgp_top.proofs.check.check_text.Goals as goal
 
@@ -16,5 +16,5 @@ returns-in-Err-Bad-clause-explains g c =
     let held = g.S.Shelf.held c.args.shelf.now in
     explains_as _ _ _ _ _ _ _ _ c.refuse_config.result
     (config_is_told (λ files x. with_manifest files c.args.manifest.now (counts x)) held (config c.args.text.now) _
-      (c.in-Err-Bad.ensures.bad c.in-Err-Bad.fault (ap Err c.in-Err-Bad.field-0-is)))
+    (c.in-Err-Bad.ensures.bad c.in-Err-Bad.fault (ap Err c.in-Err-Bad.field-0-is)))
     (explains_written _ (bad_config c.in-Err-Bad.fault) _ _ _ _ _ _ c.refuse_config.result (same_for_all (bad_config c.in-Err-Bad.fault) held) refl (λ e. cc e) c.refuse_config.ensures)

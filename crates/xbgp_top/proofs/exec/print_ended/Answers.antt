@@ -1,7 +1,5 @@
-use Rattle.std.proofs.Common.{◌≡◌, ◌∙◌, ap, None, Some, sym, Err}
+use Rattle.std.proofs.Common.{◌∙◌, ap, sym, Err}
 use Rattle.bpf_insn.specs.Helpers.{allows}
-use Rattle.bpf_insn.specs.Loading.{load_fault}
-use Rattle.xbgp_top.specs.Answers.{no_helper}
 use Rattle.xbgp_top.proofs.ExecLemmas.{exec_bad, exec_good, none_allowed}
 use Rattle.xbgp_top.proofs.exec.print_ended.Goals as goal
 
