@@ -4,6 +4,7 @@ use Rattle.xbgp_manifest.specs.declared.entries.ProgramEntry.{ProgramEntry}
 use Rattle.xbgp_manifest.specs.declared.maps.MapFields.{MapFields}
 use Rattle.xbgp_manifest.specs.declared.programs.ProgramFields.{ProgramFields}
 
+-- a map
 abbrev pub map_of : MapFields → MapEntry
 map_of f = record { name = f.name.now; shape = f.shape }
 

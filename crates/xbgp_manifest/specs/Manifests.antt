@@ -68,9 +68,11 @@ pub record IsManifest (m : Manifest) : Type 0 where
   pub programs : All IsProgram m.programs
   pub programs_differ : AllPairs (λ a b. a.name ≢ b.name) m.programs
 
+-- a text that is a name
 abbrev pub name_text : List ℕ → Option (List ℕ)
 name_text s = if is_name s then Some s else None
 
+-- the word of a point
 abbrev pub point_text : List ℕ → Option Point
 point_text s =
     if bytes_eq s (codes "receive") then Some Receive
@@ -80,7 +82,7 @@ point_text s =
     else if bytes_eq s (codes "encode") then Some Encode
     else None
 
--- the octets that an even number of hexadecimal digits of either case gives, at most 65,536 digits
+-- octets as hexadecimal digits of either case: an even number of them, at most 65,536
 abbrev pub code_text : List ℕ → Option (List ℕ)
 code_text s = if nat_le (length s) 65536 then result_ok (decode_of s) else None
 
@@ -92,10 +94,11 @@ map_shape at ms = do
   count ← required at (codes "entries") (number at 1 65536) ms
   Ok (record { key = key; value = value; entries = count })
 
+-- the keys of a map's table
 abbrev pub map_keys : List (List ℕ)
 map_keys = codes "name" ∷ codes "key" ∷ codes "value" ∷ codes "entries" ∷ []
 
--- a map, whose name no earlier one has
+-- what a map's table says
 unfoldable pub map_fields : ℕ → Data → Judged MapEntry
 map_fields i d = do
   ms ← table_with (place Map i) map_keys d
@@ -103,6 +106,7 @@ map_fields i d = do
   shape ← map_shape (place Map i) ms
   Ok (record { name = n; shape = shape })
 
+-- a map, whose name no earlier one has
 abbrev pub map_entry : ℕ → List MapEntry → Data → Judged MapEntry
 map_entry i earlier d = do
   m ← map_fields i d
@@ -130,10 +134,11 @@ load_bad i fault = record { kind = kind_of fault.kind; part = Program; index = i
 abbrev pub loaded_at : ℕ → Point → List ℕ → Judged (List ℕ)
 loaded_at i point code = elim (load_fault (helper_allowed point) code) [ None ↦ Ok code | Some fault ↦ Err (load_bad i fault) ]
 
+-- the keys of a program's table
 abbrev pub program_keys : List (List ℕ)
 program_keys = codes "name" ∷ codes "point" ∷ codes "fuel" ∷ codes "code" ∷ []
 
--- a program before its code is loaded
+-- what a program's table says, before its code is loaded
 unfoldable pub program_fields : ℕ → Data → Judged ProgramEntry
 program_fields i d = do
   ms ← table_with (place Program i) program_keys d
@@ -143,6 +148,7 @@ program_fields i d = do
   octets ← required (place Program i) (codes "code") (text (place Program i) code_text) ms
   Ok (record { name = n; point = point; fuel = fuel; code = octets })
 
+-- a program, once its code is loaded
 abbrev pub loaded_program : ℕ → ProgramEntry → Judged ProgramEntry
 loaded_program i p = do
   code ← loaded_at i p.point p.code
@@ -155,6 +161,7 @@ program_entry i earlier d = do
   _ ← must (place Program i) kinds.Double (not (list_any (λ e. bytes_eq p.name e.name) earlier))
   loaded_program i p
 
+-- the keys of the whole text
 abbrev pub top_keys : List (List ℕ)
 top_keys = codes "version" ∷ codes "map" ∷ codes "program" ∷ []
 
@@ -170,7 +177,7 @@ manifest_of ms = do
   programs ← entries program_entry listed
   Ok (record { maps = maps; programs = programs })
 
--- a fault of a manifest
+-- a fault of a manifest, as a fault of fields has it
 abbrev pub fault_of : Bad → ManifestFault
 fault_of bad = record { kind = bad.kind; part = bad.part; index = bad.index; slot = bad.slot }
 
