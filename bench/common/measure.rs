@@ -1,6 +1,6 @@
-//! Runs two programs in turn as `PROGRAM COMMAND FILE` and prints the median time and the peak memory of each.
+//! Runs two programs in turn on the same words and prints the median time and the peak memory of each.
 //!
-//! `measure LABEL ROUNDS PROGRAM YARDSTICK COMMAND FILE`. A round is REPEATS runs of each program, one after the other in
+//! `measure LABEL ROUNDS PROGRAM YARDSTICK WORDS..`. A round is REPEATS runs of each program, one after the other in
 //! turn, and its time is their median; the time that is printed is the median of the rounds. Whole processes are measured,
 //! from before their start to after their end. What they write goes to /dev/null.
 //!
@@ -31,7 +31,7 @@ struct Run {
     peak_kib: i64,
 }
 
-fn run_once(program: &str, words: [&str; 2]) -> io::Result<Run> {
+fn run_once(program: &str, words: &[&str]) -> io::Result<Run> {
     let mut command = Command::new(program);
     command.args(words);
     command.stdin(Stdio::null()).stdout(Stdio::null());
@@ -81,7 +81,7 @@ impl Measured {
     }
 }
 
-fn measure(rounds: usize, programs: [&str; 2], words: [&str; 2]) -> io::Result<[Measured; 2]> {
+fn measure(rounds: usize, programs: [&str; 2], words: &[&str]) -> io::Result<[Measured; 2]> {
     let mut measured = [Measured::default(), Measured::default()];
     for _ in 0..rounds {
         let mut runs = [Vec::new(), Vec::new()];
@@ -100,15 +100,15 @@ fn measure(rounds: usize, programs: [&str; 2], words: [&str; 2]) -> io::Result<[
 fn main() -> ExitCode {
     let words: Vec<String> = env::args().skip(1).collect();
     let words: Vec<&str> = words.iter().map(String::as_str).collect();
-    let [label, rounds, program, yardstick, command, file] = words[..] else {
-        eprintln!("usage: measure LABEL ROUNDS PROGRAM YARDSTICK COMMAND FILE");
+    let [label, rounds, program, yardstick, words @ ..] = words.as_slice() else {
+        eprintln!("usage: measure LABEL ROUNDS PROGRAM YARDSTICK WORDS..");
         return ExitCode::from(2);
     };
     let Ok(rounds @ 1..) = rounds.parse() else {
         eprintln!("measure: no number of rounds: {rounds}");
         return ExitCode::from(2);
     };
-    match measure(rounds, [program, yardstick], [command, file]) {
+    match measure(rounds, [program, yardstick], words) {
         Ok([ours, theirs]) => {
             println!(
                 "{label} xbgp {:.2} ms, yardstick {:.2} ms, ratio {:.2}, peak memory {} KiB and {} KiB",
