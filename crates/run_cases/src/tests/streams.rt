@@ -1,0 +1,95 @@
+use super::{ROUTE_TEXT, expect, message, update, zeros};
+use std::alloc::Global;
+use std::test::Fail;
+use xbgp_top::Status;
+
+#[test]
+fn tables_are_printed(rt: HostRuntime) -> Result<(), Fail> {
+    let alloc = rt.alloc();
+    let one = format!(in alloc; "10.0.0.0/8 {ROUTE_TEXT}\nend\n")?;
+    expect(
+        &rt,
+        &["heard", "x"],
+        &update(alloc, &[8, 10])?,
+        Status::Done,
+        &one,
+    )?;
+    let cleared = format!(in alloc; "10.0.0.0/13 {ROUTE_TEXT}\nend\n")?;
+    expect(
+        &rt,
+        &["heard", "x"],
+        &update(alloc, &[13, 10, 7])?,
+        Status::Done,
+        &cleared,
+    )?;
+    expect(&rt, &["heard", "x"], b"", Status::Done, "end\n")?;
+    expect(
+        &rt,
+        &["heard", "x"],
+        &message(alloc, 2, &[0, 0, 0, 0])?,
+        Status::Done,
+        "end\n",
+    )
+}
+
+// ORIGIN twice, the second with value 9.
+const TWICE: [u8; 12] = [0, 0, 0, 8, 0x40, 1, 1, 0, 0x40, 1, 1, 9];
+
+// An announcement without NEXT_HOP.
+const NO_NEXT_HOP: [u8; 17] = [
+    0, 0, 0, 11, 0x40, 1, 1, 0, 0x40, 2, 4, 2, 1, 0xfd, 0xe9, 8, 10,
+];
+
+// The body of an UPDATE of 4,096 octets, of which an unknown optional attribute has the most.
+fn full_body(alloc: Global) -> Result<Vec<u8>, Fail> {
+    let mut body = Vec::from_slice(alloc, &[0, 0, 0x0f, 0xe9, 0xd0, 0xc8, 0x0f, 0xe5])?;
+    body.extend_from_slice(&zeros(alloc, 4_069)?)?;
+    Ok(body)
+}
+
+#[test]
+fn messages_are_judged(rt: HostRuntime) -> Result<(), Fail> {
+    let alloc = rt.alloc();
+    let full = full_body(alloc)?;
+    for (body, text) in [
+        ([0, 0, 0, 0].as_slice(), "0 clean\nend\n"),
+        (TWICE.as_slice(), "0 notice 3 1 -\nend\n"),
+        (NO_NEXT_HOP.as_slice(), "0 notice 3 3 03\nend\n"),
+        (&NO_NEXT_HOP[..15], "0 clean\nend\n"),
+        (full.as_slice(), "0 clean\nend\n"),
+        (
+            [0, 0, 0, 4, 0x80, 1, 1, 0].as_slice(),
+            "0 notice 3 4 80010100\nend\n",
+        ),
+        (
+            [0, 0, 0, 5, 0x40, 2, 2, 2, 0].as_slice(),
+            "0 notice 3 11 -\nend\n",
+        ),
+    ] {
+        expect(
+            &rt,
+            &["judge", "x"],
+            &message(alloc, 2, body)?,
+            Status::Done,
+            text,
+        )?;
+    }
+    Ok(())
+}
+
+#[test]
+fn places_are_told(rt: HostRuntime) -> Result<(), Fail> {
+    let alloc = rt.alloc();
+    let mut stream = message(alloc, 4, &[])?;
+    stream.extend_from_slice(&message(alloc, 2, &TWICE)?)?;
+    let text = "0 other\n19 notice 3 1 -\nend\n";
+    expect(&rt, &["judge", "x"], &stream, Status::Done, text)?;
+    let _ = stream.pop();
+    expect(
+        &rt,
+        &["judge", "x"],
+        &stream,
+        Status::BadStream(19),
+        "fault stream 19\n",
+    )
+}
