@@ -1,6 +1,7 @@
 -- What a value says of the step that gave it.
-use Rattle.std.proofs.Common.{◌≡◌, ℕ, ◌≤◌, ℤ, pos, negsuc, Bool, true, false, List, [], length, Option, Some, None, Ok, nat_le, ◌⊎◌, inl, inr, refl, ap, sym, arith}
-use Rattle.std.proofs.lemmas.Bool.{cases_Bool, leb-true}
+use Rattle.std.proofs.Common.{◌≡◌, ℕ, zero, suc, ◌<◌, ◌≤◌, ℤ, pos, negsuc, Bool, true, false, not, if◌then◌else◌, List, [], ◌∷◌, length, get_or, Option, Some, None, Ok, nat_le, ◌⊎◌, inl, inr, refl, ap, sym, arith}
+use Rattle.std.specs.List.{list_any}
+use Rattle.std.proofs.lemmas.Bool.{cases_Bool, leb-true, or_parts}
 use Rattle.toml.specs.Data.{Data, Members, get_member, as_integer, as_array}
 use Rattle.xb_base.specs.declared.bad.BadKind.{BadKind}
 use Rattle.xb_base.specs.declared.bad.BadKind.TheVariants.{Shape, Missing, Range, Count}
@@ -72,3 +73,22 @@ optional_list_ok at key most ms ds e =
       | inl none ↦ rw none (omega arith)
       | inr (d, read) ↦ list_ok at most d ds read
     ]
+
+-- a number at a key that must be there is in its range
+pub number_at : (at : Place) (key : List ℕ) (least most : ℕ) (ms : Members) (n : ℕ) → required at key (number at least most) ms ≡ Ok n → is_between least most n ≡ true
+number_at at key least most ms n e = let r = required_ok at key (number at least most) ms n e in number_ok at least most r.0 n r.1
+
+-- a value that is given where a test passes
+pub guarded : {A : Type 0} (test : Bool) (x y : A) → (if test then Some x else None) ≡ Some y → (test ≡ true) × (x ≡ y)
+guarded true x y e = (refl, cc e)
+guarded false x y e = absurd (cc e)
+
+pub untrue : (b : Bool) → not b ≡ true → b ≡ false
+untrue true e = absurd (cc e)
+untrue false e = refl
+
+-- no element passes a test that none passes
+pub none_passes : {A : Type 0} (test : A → Bool) (xs : List A) → list_any test xs ≡ false → (k : ℕ) (d : A) → k < length xs → test (get_or xs k d) ≡ false
+none_passes test [] e k d h = absurd (omega arith)
+none_passes test (x ∷ xs) e zero d h = (or_parts (test x) (list_any test xs) e).0
+none_passes test (x ∷ xs) e (suc k) d h = none_passes test xs (or_parts (test x) (list_any test xs) e).1 k d (omega arith)

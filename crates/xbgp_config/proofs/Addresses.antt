@@ -1,5 +1,5 @@
 -- Addresses and prefixes that texts say are in their ranges.
-use Rattle.std.proofs.Common.{◌≡◌, ℕ, ◌<◌, ◌≤◌, ◌^◌, Bool, true, false, ◌&&◌, List, [], ◌∷◌, length, Option, Some, None, nat_le, refl, arith, inl, inr, if◌then◌else◌}
+use Rattle.std.proofs.Common.{◌≡◌, ℕ, ◌<◌, ◌≤◌, ◌^◌, Bool, true, ◌&&◌, List, [], ◌∷◌, length, Option, Some, None, nat_le, refl, arith, inl, inr}
 use Rattle.std.specs.Prelude.{◌==◌}
 use Rattle.std.specs.Option.{option_map}
 use Rattle.std.proofs.lemmas.Bool.{cases_Bool, and_parts, leb-true, eqb-true}
@@ -8,16 +8,13 @@ use Rattle.xb_words.specs.Optional.{◌>>=◌}
 use Rattle.xb_base.specs.Prefixes.{Prefix, IsPrefix, prefix_of}
 use Rattle.xb_base.proofs.PrefixLemmas.{prefix_is_one}
 use Rattle.xb_base.specs.Readers.{parts, is_decimal, digits_value, number_up_to, octet_texts, read_dotted, prefix_in, read_prefix}
+use Rattle.xb_fields.proofs.Accepted.{guarded}
 use Rattle.xbgp_config.specs.Configs.{passing}
 
 -- a chain with a value has a value at its first step
 some_of : {A B : Type 0} (o : Option A) (f : A → Option B) (y : B) → (o >>= f) ≡ Some y → (x : A) × (o ≡ Some x) × (f x ≡ Some y)
 some_of None f y e = absurd (cc e)
 some_of (Some x) f y e = (x, refl, e)
-
-guarded : {A : Type 0} (test : Bool) (x y : A) → (if test then Some x else None) ≡ Some y → (test ≡ true) × (x ≡ y)
-guarded true x y e = (refl, cc e)
-guarded false x y e = absurd (cc e)
 
 number_small : (limit : ℕ) (text : List ℕ) (n : ℕ) → number_up_to limit text ≡ Some n → n ≤ limit
 number_small limit text n e =

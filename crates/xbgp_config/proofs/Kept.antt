@@ -1,5 +1,5 @@
 -- Every accepted configuration keeps its ranges, limits and differences.
-use Rattle.std.proofs.Common.{◌≡◌, ◌≢◌, ℕ, ◌<◌, ◌≤◌, Bool, true, false, not, ◌||◌, List, [], ◌∷◌, ◌++◌, length, get_or, zero, suc, Ok, Err, refl, ap, sym, ◌∙◌, arith, inl, inr}
+use Rattle.std.proofs.Common.{◌≡◌, ◌≢◌, ℕ, ◌<◌, ◌≤◌, true, false, not, ◌||◌, List, [], ◌∷◌, ◌++◌, length, get_or, Ok, Err, refl, ap, sym, ◌∙◌, arith, inl, inr}
 use Rattle.std.specs.Prelude.{◌==◌, IsTrue, codes, nat_le}
 use Rattle.std.specs.Result.{result_map_both}
 use Rattle.std.specs.List.{list_any, All, AllPairs}
@@ -14,23 +14,13 @@ use Rattle.xb_base.specs.Readers.{read_dotted, read_prefix}
 use Rattle.xb_fields.specs.declared.fault.Place.{Place}
 use Rattle.xb_fields.specs.Fields.{Judged, ◌>>=◌, document, place, required, optional, number, text, entries, is_between, keys_listed, table_with, list_of}
 use Rattle.xb_fields.proofs.Steps.{bind_ok, same_ok, entries_keep, length-entries}
-use Rattle.xb_fields.proofs.Accepted.{must_ok, number_ok, text_ok, required_ok, optional_ok, optional_list_ok}
+use Rattle.xb_fields.proofs.Accepted.{must_ok, number_ok, number_at, text_ok, required_ok, optional_ok, optional_list_ok, untrue, none_passes}
 use Rattle.xbgp_config.specs.declared.speaker.SpeakerFields.{SpeakerFields}
 use Rattle.xbgp_config.specs.declared.speaker.SpeakerPart.{SpeakerPart}
 use Rattle.xbgp_config.specs.declared.lists.PeerEntry.{PeerEntry}
 use Rattle.xbgp_config.specs.declared.lists.CostEntry.{CostEntry}
 use Rattle.xbgp_config.specs.Configs.{Config, IsConfig, greatest_as, is_as, is_hold, is_host_address, same_prefix, host_text, id_text, hold_time, speaker_fields, speaker_part, network_entry, peer_fields, peer_entry, cost_fields, cost_entry, speaker_keys, top_keys, fault_of, config_of, config}
 use Rattle.xbgp_config.proofs.Addresses.{prefix_good, passing_ok}
-
--- no element passes a test that none passes
-none_passes : {A : Type 0} (test : A → Bool) (xs : List A) → list_any test xs ≡ false → (k : ℕ) (d : A) → k < length xs → test (get_or xs k d) ≡ false
-none_passes test [] e k d h = absurd (omega arith)
-none_passes test (x ∷ xs) e zero d h = (or_parts (test x) (list_any test xs) e).0
-none_passes test (x ∷ xs) e (suc k) d h = none_passes test xs (or_parts (test x) (list_any test xs) e).1 k d (omega arith)
-
-untrue : (b : Bool) → not b ≡ true → b ≡ false
-untrue true e = absurd (cc e)
-untrue false e = refl
 
 -- the ranges of the speaker's fields
 record FieldsKept (f : SpeakerFields) : Type 0 where
@@ -50,9 +40,6 @@ hold_kept d n e =
     let b = bind_ok (number (place Speaker 0) 0 65535 d) _ n e in
     let m = must_ok (place Speaker 0) Range (is_hold b.0) _ n b.2 in
     rw (← same_ok b.0 n m.1) m.0
-
-number_at : (at : Place) (key : List ℕ) (least most : ℕ) (ms : Members) (n : ℕ) → required at key (number at least most) ms ≡ Ok n → is_between least most n ≡ true
-number_at at key least most ms n e = let r = required_ok at key (number at least most) ms n e in number_ok at least most r.0 n r.1
 
 host_at : (at : Place) (key : List ℕ) (ms : Members) (a : ℕ) → required at key (text at host_text) ms ≡ Ok a → is_host_address a ≡ true
 host_at at key ms a e =

@@ -1,10 +1,10 @@
 -- Every accepted manifest keeps its ranges and limits, that names differ, and loaded code.
-use Rattle.std.proofs.Common.{◌≡◌, ◌≢◌, ℕ, ◌<◌, ◌≤◌, Bool, true, false, not, List, [], ◌∷◌, ◌++◌, length, map, get_or, zero, suc, Option, Some, None, Ok, Err, refl, ap, sym, ◌∙◌, arith, if◌then◌else◌}
+use Rattle.std.proofs.Common.{◌≡◌, ◌≢◌, ℕ, ◌<◌, ◌≤◌, true, false, not, List, [], ◌∷◌, ◌++◌, length, map, get_or, Option, Some, None, Ok, Err, refl, ap, sym, ◌∙◌, arith}
 use Rattle.std.specs.Prelude.{IsTrue, codes, nat_le}
 use Rattle.std.specs.Result.{result_map_both}
 use Rattle.std.specs.Str.{bytes_eq}
 use Rattle.std.specs.List.{list_any, All, AllPairs, AllByRecursion}
-use Rattle.std.proofs.lemmas.Bool.{or_parts, leb-true, false≢true}
+use Rattle.std.proofs.lemmas.Bool.{leb-true, false≢true}
 use Rattle.std.proofs.lemmas.List.{length-map}
 use Rattle.std.proofs.lemmas.List.Elements.{All-push}
 use Rattle.std.proofs.lemmas.List.Quantifiers.{all_pairs_push}
@@ -18,9 +18,9 @@ use Rattle.xb_base.specs.Actors.{helper_allowed}
 use Rattle.xb_base.specs.declared.bad.BadKind.TheVariants.{Key, Room, Double}
 use Rattle.xb_base.specs.declared.bad.Part.TheVariants.{Top, Map, Program}
 use Rattle.xb_fields.specs.declared.fault.Place.{Place}
-use Rattle.xb_fields.specs.Fields.{Judged, ◌>>=◌, document, place, required, optional, number, text, entries, is_between, keys_listed, table_with, list_of, bad_at}
+use Rattle.xb_fields.specs.Fields.{Judged, ◌>>=◌, document, place, required, optional, number, text, entries, keys_listed, table_with, list_of, bad_at}
 use Rattle.xb_fields.proofs.Steps.{bind_ok, same_ok, entries_keep, length-entries}
-use Rattle.xb_fields.proofs.Accepted.{must_ok, number_ok, text_ok, required_ok, optional_list_ok}
+use Rattle.xb_fields.proofs.Accepted.{must_ok, number_at, text_ok, required_ok, optional_list_ok, guarded, untrue, none_passes}
 use Rattle.xbgp_maps.specs.declared.shape.MapShape.{MapShape}
 use Rattle.xbgp_maps.specs.Mappings.{is_from_1_to}
 use Rattle.xbgp_manifest.specs.declared.entries.MapEntry.{MapEntry}
@@ -28,26 +28,9 @@ use Rattle.xbgp_manifest.specs.declared.entries.ProgramEntry.{ProgramEntry}
 use Rattle.xbgp_manifest.specs.Manifests.{Manifest, IsManifest, IsProgram, is_name, is_fuel, shapes_of, room_of, name_text, point_text, code_text, map_shape, map_keys, map_fields, map_entry, load_bad, program_keys, program_fields, loaded_program, program_entry, top_keys, manifest_of, fault_of, manifest}
 use Rattle.xbgp_manifest.proofs.Rooms.{map-push}
 
--- no element passes a test that none passes
-none_passes : {A : Type 0} (test : A → Bool) (xs : List A) → list_any test xs ≡ false → (k : ℕ) (d : A) → k < length xs → test (get_or xs k d) ≡ false
-none_passes test [] e k d h = absurd (omega arith)
-none_passes test (x ∷ xs) e zero d h = (or_parts (test x) (list_any test xs) e).0
-none_passes test (x ∷ xs) e (suc k) d h = none_passes test xs (or_parts (test x) (list_any test xs) e).1 k d (omega arith)
-
-untrue : (b : Bool) → not b ≡ true → b ≡ false
-untrue true e = absurd (cc e)
-untrue false e = refl
-
-guarded : {A : Type 0} (test : Bool) (x y : A) → (if test then Some x else None) ≡ Some y → (test ≡ true) × (x ≡ y)
-guarded true x y e = (refl, cc e)
-guarded false x y e = absurd (cc e)
-
 all_push : {A : Type 0} (P : A → Type 0) (xs : List A) (y : A) → AllByRecursion P xs → P y → AllByRecursion P (xs ++ y ∷ [])
 all_push P [] y all here = (here, tt)
 all_push P (x ∷ xs) y all here = (all.0, all_push P xs y all.1 here)
-
-number_at : (at : Place) (key : List ℕ) (least most : ℕ) (ms : Members) (n : ℕ) → required at key (number at least most) ms ≡ Ok n → is_between least most n ≡ true
-number_at at key least most ms n e = let r = required_ok at key (number at least most) ms n e in number_ok at least most r.0 n r.1
 
 name_at : (at : Place) (ms : Members) (n : List ℕ) → required at (codes "name") (text at name_text) ms ≡ Ok n → is_name n ≡ true
 name_at at ms n e =

@@ -1,4 +1,3 @@
-pub mod Handed
 pub mod Rooms
 pub mod Names
 pub mod Kept

@@ -2,7 +2,7 @@ use Rattle.std.proofs.Common.{sym, codes}
 use Rattle.toml.specs.View.{table_view}
 use Rattle.xb_fields.proofs.Texts.{no_text, text_read}
 use Rattle.xbgp_manifest.specs.Manifests.{code_text}
-use Rattle.xbgp_manifest.proofs.Handed.{gives_mapped_bad}
+use Rattle.xb_fields.proofs.Handed.{gives_mapped_bad}
 use Rattle.xbgp_manifest.proofs.code.required_code.Goals as goal
 
 pub returns-in_err-text : goal.returns-in_err-text

@@ -1,6 +1,6 @@
 use Rattle.xbgp_manifest.specs.Fields.{program_of}
 use Rattle.xbgp_manifest.specs.Manifests.{program_fields}
-use Rattle.xbgp_manifest.proofs.Handed.{gives_mapped_bad, gives_mapped_error}
+use Rattle.xb_fields.proofs.Handed.{gives_mapped_bad, gives_mapped_error}
 use Rattle.xbgp_manifest.proofs.programs.program_fields.Goals as goal
 
 pub returns-in_err-table : goal.returns-in_err-table
