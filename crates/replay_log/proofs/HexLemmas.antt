@@ -1,9 +1,10 @@
 -- Octets that are read from hexadecimal digits.
-use Rattle.std.proofs.Common.{◌≡◌, refl, sym, ap, ◌∙◌, ℕ, ◌+◌, ◌-◌, ◌*◌, ◌≤◌, List, [], ◌∷◌, ◌++◌, length, take, drop, get_or, Option, Some, None, Bool, true, false, arith, length-append}
+use Rattle.std.proofs.Common.{◌≡◌, refl, sym, ap, ◌∙◌, ℕ, ◌+◌, ◌-◌, ◌*◌, ◌≤◌, List, [], ◌∷◌, ◌++◌, length, take, drop, get_or, Option, Some, None, Bool, arith, length-append}
 use Rattle.std.proofs.lemmas.List.{append_assoc, take_rest, length-drop}
 use Rattle.xb_words.specs.Optional.{◌>>=◌}
 use Rattle.xb_base.specs.Buffers.{Buffer, Appends}
 use Rattle.xb_base.specs.Readers.{hex_value, read_hex}
+use Rattle.xb_base.proofs.BufferLemmas.{appended}
 use Rattle.replay_log.specs.Lines.{octet_value}
 
 -- octets, where there are some, behind others
@@ -34,10 +35,6 @@ pair_read front longer (high ∷ []) b two e is = absurd (omega arith)
 pair_read front longer (high ∷ low ∷ digits) b two e is =
     rw (take_rest (high ∷ low ∷ digits) 2, is)
     (behind_all front b (read_hex digits) ∙ ap (behind front) (sym (pair_said (hex_value high) (hex_value low) (read_hex digits) b e)))
-
-pub appended : (done : Bool) (old new : Buffer) (text : List ℕ) → Appends done old new text → length old.octets + length text ≤ old.capacity → new ≡ record old { octets = old.octets ++ text }
-appended true old new text a fits = a.result
-appended false old new text a fits = let wrong : false ≡ true = a.fits.1 fits in cc wrong
 
 -- the same where the octet is appended to a buffer that has room for all
 pub pair_pushed : (done : Bool) (old new : Buffer) (digits text : List ℕ) (b capacity : ℕ)

@@ -46,11 +46,6 @@ log_by peers log n now end = ends whole
 log_by peers log n now line_too_long = ends (bad n)
 log_by peers log n now log_too_long = ends too_long
 
--- the octets under a name, where the shelf tells and holds it
-abbrev pub told_text : Option Files → List ℕ → Option (List ℕ)
-told_text None name = None
-told_text (Some files) name = file_named files name
-
 -- where the shelf tells, the octets that were read ahead stand in that name at their place
 abbrev pub StandsAhead : Option Files → List ℕ → Reading → Type 0
 StandsAhead None name r = Unit {0}

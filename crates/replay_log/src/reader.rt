@@ -1,7 +1,7 @@
 ghost use Rattle.std.specs.Prelude.{◌≡◌, ◌≢◌, ◌⊎◌, ℕ, ◌+◌, ◌<◌, ◌≤◌, List, [], length, slice_get, Some, IfOk, IfSome, IfErr, OnOk, OnErr, IsErr};
-ghost use Rattle.xb_base.specs.Causes.{Rose, IsMissing};
+ghost use Rattle.xb_base.specs.Causes.{Rose, IsMissing, told_text};
 ghost use Rattle.replay_log.specs.Logs.{log_limit, longest_line};
-ghost use Rattle.replay_log.specs.Readings.{told_text, next_at, answered, StandsAhead};
+ghost use Rattle.replay_log.specs.Readings.{next_at, answered, StandsAhead};
 
 use std::alloc::{AllocError, Global};
 use std::marker::Model;

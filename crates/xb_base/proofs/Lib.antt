@@ -4,3 +4,4 @@ pub mod ReaderLemmas
 pub mod MemoryLemmas
 pub mod Streams
 pub mod PageLemmas
+pub mod BufferLemmas

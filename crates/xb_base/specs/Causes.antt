@@ -12,6 +12,11 @@ Files = List (List ℕ × List ℕ)
 abbrev pub file_named : Files → List ℕ → Option (List ℕ)
 file_named files name = lookup (λ key. bytes_eq name key) files
 
+-- the octets under a name, where the shelf tells and holds it
+abbrev pub told_text : Option Files → List ℕ → Option (List ℕ)
+told_text None name = None
+told_text (Some files) name = file_named files name
+
 -- a count of faults rose in a call: it is greater than before, or stands at its type's end
 abbrev pub Rose : ℕ → ℕ → Type 0
 Rose before now = (before < now) ⊎ (now ≡ 2 ^ 64 - 1)

@@ -3,7 +3,7 @@ use Rattle.std.proofs.Common.{◌≡◌, ℕ, Bool, true, false, ◌||◌, not, 
 use Rattle.std.specs.Borrow.{Bor}
 use Rattle.std.specs.List.{list_any}
 use Rattle.std.specs.Str.{bytes_eq}
-use Rattle.xbgp_manifest.proofs.Rooms.{map-push}
+use Rattle.std.proofs.lemmas.List.{map-append}
 
 -- what an insertion says of a key
 pub was_there : (added there : Bool) → added ≡ not there → added ≡ false → there ≡ true
@@ -28,4 +28,4 @@ module _ {E : Type 0} (name : E → List ℕ) (s : Bor (List ℕ)) (met : List (
       → list_any (λ k. bytes_eq s.now k.now) met ≡ false → s.now ≡ name e → map (λ k. k.now) others ≡ map name (es ++ e ∷ [])
   met_more others e inserted absent is =
       ap (map (λ k. k.now)) (inserted ∙ ap (λ b. if b then met else met ++ s ∷ []) absent)
-      ∙ map-push (λ k. k.now) met s ∙ ap (λ names. names ++ s.now ∷ []) same ∙ ap (λ n. map name es ++ n ∷ []) is ∙ sym (map-push name es e)
+      ∙ map-append (λ k. k.now) met (s ∷ []) ∙ ap (λ names. names ++ s.now ∷ []) same ∙ ap (λ n. map name es ++ n ∷ []) is ∙ sym (map-append name es (e ∷ []))

@@ -16,7 +16,7 @@ use Rattle.xbgp_maps.specs.declared.shape.Remove.TheVariants as removes
 use Rattle.xb_words.specs.Table.{without}
 use Rattle.xbgp_maps.specs.Mappings.{Mapping, IsMapping, Journalled, key_cmp, mapping_at, value_in, put_in, taken_from, put_answer, remove_answer, after_put, after_remove, budget, is_full, written, empty_maps, is_from_1_to, shapes_of, AreWithinLimits}
 use Rattle.xbgp_maps.specs.Journals.{Write, restored, taken_back, all_taken_back, CanTakeBack, CanTakeAllBack, IsNarrow, IsUndoable, seen, when_done, was_put, was_removed}
-use Rattle.xbgp_maps.proofs.Entries.{found, undo_new, undo_over, undo_without, value_with, length_without}
+use Rattle.xb_words.proofs.Entries.{found, undo_new, undo_over, undo_without, value_with, length_without}
 
 get_again : (maps : List Mapping) (n : ℕ) (m after : Mapping) → slice_get maps n ≡ Some m → slice_get (slice_set maps n after) n ≡ Some after
 get_again [] n m after there = absurd (cc there)

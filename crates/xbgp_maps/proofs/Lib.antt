@@ -1,5 +1,3 @@
-pub mod Middles
-pub mod Entries
 pub mod Trees
 pub mod Tables
 pub mod Journals

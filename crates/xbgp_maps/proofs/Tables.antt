@@ -2,7 +2,7 @@
 use Rattle.std.proofs.Common.{◌≡◌, ℕ, suc, ◌+◌, ◌<◌, ◌≤◌, List, [], ◌∷◌, ◌++◌, length, map, Option, Some, None, IsSome, refl, sym, ◌∙◌, ap, subst, arith, length-append}
 use Rattle.std.specs.List.{AllByRecursion}
 use Rattle.std.specs.List.Sorted.{IsStrictlySortedBy}
-use Rattle.std.proofs.lemmas.List.{length-map}
+use Rattle.std.proofs.lemmas.List.{length-map, map-append}
 use Rattle.std.proofs.lemmas.Cmp.{nat_list_cmp_total}
 use Rattle.std.proofs.lemmas.Map.Lookups.{exact_bytes}
 use Rattle.xb_words.specs.Table.{with_value, without}
@@ -11,7 +11,8 @@ use Rattle.xbgp_maps.specs.declared.shape.MapShape.{MapShape}
 use Rattle.xbgp_maps.specs.Mappings.{Mapping, IsMapping, key_cmp, value_in, put_in, taken_from}
 use Rattle.xbgp_maps.specs.Tables.{IsTable, IsBlank}
 use Rattle.xbgp_maps.specs.Trees.{HaveWidth, IsAlone}
-use Rattle.xbgp_maps.proofs.Entries.{all_with, all_without, all_over, found, length_new, length_without, length_there, without_absent, rising_with, rising_without}
+use Rattle.xb_words.proofs.Ends.{all_left, all_right, all_push}
+use Rattle.xb_words.proofs.Entries.{all_with, all_without, all_over, found, length_new, length_without, length_there, without_absent, rising_with, rising_without}
 
 abbrev Entries : Type 0
 Entries = List (List ℕ × List ℕ)
@@ -19,18 +20,12 @@ Entries = List (List ℕ × List ℕ)
 abbrev HasWidths : MapShape → List ℕ × List ℕ → Type 0
 HasWidths shape e = (length e.0 ≡ shape.key) × (length e.1 ≡ shape.value)
 
--- one more at the end
-pub all_push : {A B : Type 0} (P : B → Type 0) (f : A → B) (xs : List A) (y : A) → AllByRecursion P (map f xs) → P (f y) → AllByRecursion P (map f (xs ++ y ∷ []))
-all_push P f [] y a p = (p, tt)
-all_push P f (x ∷ xs) y a p = (a.0, all_push P f xs y a.1 p)
-
+-- what holds of every spare node, and of the last of them
 all_front : {A B : Type 0} (P : B → Type 0) (f : A → B) (xs : List A) (y : A) → AllByRecursion P (map f (xs ++ y ∷ [])) → AllByRecursion P (map f xs)
-all_front P f [] y a = tt
-all_front P f (x ∷ xs) y a = (a.0, all_front P f xs y a.1)
+all_front P f xs y all = all_left P (map f xs) (f y ∷ []) (rw (map-append f xs (y ∷ [])) at all)
 
 pub all_last : {A B : Type 0} (P : B → Type 0) (f : A → B) (xs : List A) (y : A) → AllByRecursion P (map f (xs ++ y ∷ [])) → P (f y)
-all_last P f [] y a = a.0
-all_last P f (x ∷ xs) y a = all_last P f xs y a.1
+all_last P f xs y all = (all_right P (map f xs) (f y ∷ []) (rw (map-append f xs (y ∷ [])) at all)).0
 
 widths_values : (shape : MapShape) (es : Entries) → AllByRecursion (HasWidths shape) es → AllByRecursion (λ (e : List ℕ × List ℕ). length e.1 ≡ shape.value) es
 widths_values shape [] a = tt
@@ -102,7 +97,7 @@ table_gone f m all boxes b room more k table joined there key alone wider =
       };
       count = omega (arith, fewer, another, all_of, count);
       capacity = omega (arith, capacity, wider);
-      blank = subst (λ bs. AllByRecursion (IsBlank m.shape) (map f bs)) (sym joined) (all_push (IsBlank m.shape) f boxes b table.blank (record { key = ap length key ∙ width; value = entry.2.1; alone = alone }));
+      blank = subst (λ bs. AllByRecursion (IsBlank m.shape) (map f bs)) (sym joined) (rw (map-append f boxes (b ∷ [])) (all_push (IsBlank m.shape) (map f boxes) (f b) table.blank (record { key = ap length key ∙ width; value = entry.2.1; alone = alone })));
     }
 
 -- where nothing is at the key, nothing changes

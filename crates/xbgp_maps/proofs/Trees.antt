@@ -1,14 +1,14 @@
 -- What the calls on a node's tree are on the trees at its sides.
 use Rattle.std.proofs.Common.{◌≡◌, ℕ, ◌<◌, List, [], ◌∷◌, ◌++◌, length, Some, refl, sym, arith, length-append}
 use Rattle.std.specs.declared.cmp.Ordering.TheVariants.{Less, Equal, Greater}
-use Rattle.std.specs.List.{AllByRecursion}
 use Rattle.std.proofs.lemmas.Cmp.{nat_list_cmp_total}
 use Rattle.std.proofs.lemmas.Map.Lookups.{exact_bytes}
 use Rattle.xb_words.specs.Table.{value_at, with_value, without, entry_after, first, IsRising}
 use Rattle.xbgp_maps.specs.declared.node.Node.{Node}
 use Rattle.xbgp_maps.specs.Mappings.{key_cmp}
 use Rattle.xbgp_maps.specs.Trees.{entries_of, entries_below, entry_of, HaveWidth}
-use Rattle.xbgp_maps.proofs.Middles as middle
+use Rattle.xb_words.proofs.Ends.{all_left, all_right}
+use Rattle.xb_words.proofs.Middles as middle
 
 abbrev Entries : Type 0
 Entries = List (List ℕ × List ℕ)
@@ -49,14 +49,6 @@ first_cut (l ∷ ls) e rs = refl
 
 pub first_below : (n : Node) → first (entries_below n) ≡ middle.or_entry (first (entries_of n.left)) (entry_of n)
 first_below n = first_cut (entries_of n.left) (entry_of n) (entries_of n.right)
-
-all_left : (P : List ℕ × List ℕ → Type 0) (ls es : Entries) → AllByRecursion P (ls ++ es) → AllByRecursion P ls
-all_left P [] es a = tt
-all_left P (l ∷ ls) es a = (a.0, all_left P ls es a.1)
-
-all_right : (P : List ℕ × List ℕ → Type 0) (ls es : Entries) → AllByRecursion P (ls ++ es) → AllByRecursion P es
-all_right P [] es a = a
-all_right P (l ∷ ls) es a = all_right P ls es a.1
 
 pub values_left : (n : Node) (w : ℕ) → HaveWidth w (entries_below n) → HaveWidth w (entries_of n.left)
 values_left n w a = record { all = all_left (λ e. length e.1 ≡ w) (entries_of n.left) (entry_of n ∷ entries_of n.right) a.all }

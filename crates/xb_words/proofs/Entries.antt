@@ -6,7 +6,7 @@ use Rattle.std.specs.declared.cmp.Ordering.{Ordering}
 use Rattle.std.specs.declared.cmp.Ordering.TheVariants.{Less, Equal, Greater}
 use Rattle.std.proofs.lemmas.Cmp.{tied_itself}
 use Rattle.xb_words.specs.Table.{value_at, with_value, without, IsRising}
-use Rattle.xbgp_maps.proofs.Middles.{Each, head_rises, tail_rises, rises, each_above, above_equal, value_above, under}
+use Rattle.xb_words.proofs.Middles.{Each, head_rises, tail_rises, rises, each_above, above_equal, value_above, under}
 
 -- an ordering is one of three
 pub by_ordering : {P : Type 0} (r : Ordering) → (r ≡ Less → P) → (r ≡ Equal → P) → (r ≡ Greater → P) → P
