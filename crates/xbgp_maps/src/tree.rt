@@ -99,7 +99,8 @@ fn with_node(tree: Tree, new: Box<Node>) -> Tree
     ensures { entries_of result ≡ with_value key_cmp (entries_of tree) new.value.key.items new.value.value.items }
 {
     match tree {
-        Tree::Leaf => Tree::Fork(new),
+        // it may have the height of another place still
+        Tree::Leaf => Tree::Fork(balanced(new)),
         Tree::Fork(mut node) => {
             match new.key.as_slice().cmp(&node.key.as_slice()) {
                 Ordering::Less => {
