@@ -1,3 +1,4 @@
+pub mod Heights
 pub mod Trees
 pub mod Tables
 pub mod Journals

@@ -1,5 +1,5 @@
--- What a search tree is seen as.
-use Rattle.std.specs.Prelude.{◌≡◌, ℕ, List, [], ◌∷◌, ◌++◌, length, Option, Some, None, MatchOption}
+-- What a search tree is seen as, and how low it is.
+use Rattle.std.specs.Prelude.{◌≡◌, ℕ, ◌+◌, ◌<◌, ◌≤◌, max, List, [], ◌∷◌, ◌++◌, length, Option, Some, None, MatchOption}
 use Rattle.std.specs.List.{AllByRecursion}
 use Rattle.xb_words.specs.Table.{value_at}
 use Rattle.xbgp_maps.specs.declared.node.Tree.{Tree, Leaf, Fork'}
@@ -21,7 +21,7 @@ entries_below n = entries_of n.left ++ entry_of n ∷ entries_of n.right
 
 -- a node with nothing below it
 abbrev pub IsAlone : Node → Type 0
-IsAlone n = (entries_of n.left ≡ []) × (entries_of n.right ≡ [])
+IsAlone n = (n.left ≡ Leaf) × (n.right ≡ Leaf)
 
 -- a node that was taken out has the entry that stood at the key, and is alone
 abbrev pub IsTaken : List (List ℕ × List ℕ) → List ℕ → Option Node → Type 0
@@ -30,3 +30,82 @@ IsTaken es key taken = MatchOption taken (value_at key_cmp es key ≡ None) (λ 
 -- each value has a width
 pub record HaveWidth (width : ℕ) (es : List (List ℕ × List ℕ)) : Type 0 where
   pub all : AllByRecursion (λ e. length e.1 ≡ width) es
+
+-- the height that a tree knows of itself
+abbrev pub height_of : Tree → ℕ
+height_of Leaf = 0
+height_of (Fork' p key value height left right) = height
+
+-- the trees at the sides, which are empty in an empty tree
+abbrev pub left_of : Tree → Tree
+left_of Leaf = Leaf
+left_of (Fork' p key value height left right) = left
+
+abbrev pub right_of : Tree → Tree
+right_of Leaf = Leaf
+right_of (Fork' p key value height left right) = right
+
+-- a height is one over that of the higher side, and the sides' heights differ by one at most
+pub record IsLevel (height l r : ℕ) : Type 0 where
+  pub above : height ≡ max l r + 1
+  pub left : l ≤ r + 1
+  pub right : r ≤ l + 1
+
+-- so it is at each node
+abbrev pub IsBalanced : Tree → Type 0
+IsBalanced Leaf = Unit {0}
+IsBalanced (Fork' p key value height left right) = IsLevel height (height_of left) (height_of right) × IsBalanced left × IsBalanced right
+
+-- so it is at a node and at each below it
+abbrev pub IsBalancedBelow : Node → Type 0
+IsBalancedBelow n = IsLevel n.height (height_of n.left) (height_of n.right) × IsBalanced n.left × IsBalanced n.right
+
+-- a height that is far below the greatest number of one octet
+abbrev pub IsLow : ℕ → Type 0
+IsLow height = height ≤ 200
+
+-- a height is another one or one over it
+pub record IsNext (low high : ℕ) : Type 0 where
+  pub least : low ≤ high
+  pub most : high ≤ low + 1
+
+-- the height of a node whose sides may differ by two levels, once it is balanced
+pub record IsMended (l r height : ℕ) : Type 0 where
+  pub left : l ≤ height
+  pub right : r ≤ height
+  pub most : height ≤ max l r + 1
+  pub level : l ≤ r + 1 → r ≤ l + 1 → height ≡ max l r + 1
+
+-- the node at the left has come up: its own left side stays there, and at its right stands the old node, which has the tree between
+pub record IsTurnedRight (l r : Tree) (n : Node) : Type 0 where
+  pub left : n.left ≡ left_of l
+  pub middle : left_of n.right ≡ right_of l
+  pub right : right_of n.right ≡ r
+  pub down : height_of n.right ≡ max (height_of (right_of l)) (height_of r) + 1
+  pub up : n.height ≡ max (height_of (left_of l)) (height_of n.right) + 1
+
+-- the same from the right
+pub record IsTurnedLeft (l r : Tree) (n : Node) : Type 0 where
+  pub right : n.right ≡ right_of r
+  pub middle : right_of n.left ≡ left_of r
+  pub left : left_of n.left ≡ l
+  pub down : height_of n.left ≡ max (height_of l) (height_of (left_of r)) + 1
+  pub up : n.height ≡ max (height_of n.left) (height_of (right_of r)) + 1
+
+-- its left side is one level below a height, and its right side no higher and at most two levels lower
+pub record LeansLeft (height : ℕ) (t : Tree) : Type 0 where
+  pub some : 0 < height_of t
+  pub left : height_of (left_of t) + 1 ≡ height
+  pub right : height_of (right_of t) + 1 ≤ height
+  pub near : height ≤ height_of (right_of t) + 3
+  pub is_left : IsBalanced (left_of t)
+  pub is_right : IsBalanced (right_of t)
+
+-- the same with the sides exchanged
+pub record LeansRight (height : ℕ) (t : Tree) : Type 0 where
+  pub some : 0 < height_of t
+  pub right : height_of (right_of t) + 1 ≡ height
+  pub left : height_of (left_of t) + 1 ≤ height
+  pub near : height ≤ height_of (left_of t) + 3
+  pub is_left : IsBalanced (left_of t)
+  pub is_right : IsBalanced (right_of t)

@@ -2,10 +2,11 @@
 //!
 //! A program writes within a run. The run is closed by keeping all its writes or by undoing all of them, and at most 64 may
 //! stand in it. All memory is taken when the maps are made, so no later call asks for any. A look-up, a write, a removal and a
-//! step of a walk take time in the logarithm of the number of entries, and an undo takes as many of these as there were writes.
+//! step of a walk go down a tree once or twice, and an undo does so for each of the writes. The tree is kept balanced, so that
+//! 65,536 entries stand on at most 33 levels (`proofs/Heights`).
 //!
 //! It stands on `xb_words` alone. `specs/Mappings` says what the maps, their limits and the answers are, in the words of finite
-//! maps. What stands below it says how they are kept: `specs/Trees` what a search tree holds, `specs/Tables` that a
+//! maps. What stands below it says how they are kept: `specs/Trees` what a search tree holds and when it is balanced, `specs/Tables` that a
 //! node is in store for each further entry, and `specs/Journals` that the writes can be taken back.
 #![tactic(auto)]
 

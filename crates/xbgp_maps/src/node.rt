@@ -1,6 +1,7 @@
 // Nodes of a search tree, and turns that keep its two sides at heights near each other.
-ghost use Rattle.std.specs.Prelude.{◌≡◌, [], ◌∷◌, length, IfOk};
-ghost use Rattle.xbgp_maps.specs.Trees.{entries_of, entries_below, entry_of, IsAlone};
+ghost use Rattle.std.specs.Prelude.{◌≡◌, ◌+◌, ◌<◌, ◌≤◌, max, length, IfOk};
+ghost use Rattle.xbgp_maps.specs.declared.node.Tree.TheVariants.{Leaf};
+ghost use Rattle.xbgp_maps.specs.Trees.{entries_of, entries_below, height_of, left_of, right_of, IsAlone, IsBalanced, IsBalancedBelow, IsLow, IsMended, IsTurnedLeft, IsTurnedRight, LeansLeft, LeansRight};
 
 use std::alloc::{AllocError, Global};
 use std::mem;
@@ -24,8 +25,9 @@ pub struct Node {
 }
 
 impl Tree {
-    // A node that is alone has the height 1.
-    fn height(&self) -> u8 {
+    fn height(&self) -> u8
+        ensures { result ≡ height_of self.now }
+    {
         match self {
             Tree::Leaf => 0,
             Tree::Fork(node) => node.height,
@@ -35,7 +37,7 @@ impl Tree {
     /// Takes the whole tree, and leaves an empty one.
     pub fn take(&mut self) -> Tree
         ensures taken { result ≡ self.old }
-        ensures left { entries_of self.new ≡ [] }
+        ensures left { self.new ≡ Leaf }
     {
         mem::replace(self, Tree::Leaf)
     }
@@ -67,15 +69,21 @@ impl Node {
 
 // Sets the height by those of the sides.
 fn measure(node: &mut Node)
-    ensures { entries_below node.new ≡ entries_below node.old }
+    requires left { height_of node.old.left < 255 }
+    requires right { height_of node.old.right < 255 }
+    ensures { node.new ≡ record node.old { height = max (height_of node.old.left) (height_of node.old.right) + 1 } }
 {
-    let (left, right) = (node.left.height(), node.right.height());
-    node.height = left.max(right).saturating_add(1);
+    node.height = node.left.height().max(node.right.height()) + 1;
 }
 
-// The node at the left comes up, where there is one.
+// The node at the left comes up.
 fn turn_right(mut top: Box<Node>) -> Box<Node>
-    ensures { entries_below result.value ≡ entries_below top.value }
+    requires some { 0 < height_of top.value.left }
+    requires left { IsLow (height_of (left_of top.value.left)) }
+    requires middle { IsLow (height_of (right_of top.value.left)) }
+    requires right { IsLow (height_of top.value.right) }
+    ensures entries { entries_below result.value ≡ entries_below top.value }
+    ensures turned { IsTurnedRight top.value.left top.value.right result.value }
 {
     match top.left.take() {
         Tree::Leaf => top,
@@ -89,9 +97,14 @@ fn turn_right(mut top: Box<Node>) -> Box<Node>
     }
 }
 
-// The node at the right comes up, where there is one.
+// The node at the right comes up.
 fn turn_left(mut top: Box<Node>) -> Box<Node>
-    ensures { entries_below result.value ≡ entries_below top.value }
+    requires some { 0 < height_of top.value.right }
+    requires left { IsLow (height_of top.value.left) }
+    requires middle { IsLow (height_of (left_of top.value.right)) }
+    requires right { IsLow (height_of (right_of top.value.right)) }
+    ensures entries { entries_below result.value ≡ entries_below top.value }
+    ensures turned { IsTurnedLeft top.value.left top.value.right result.value }
 {
     match top.right.take() {
         Tree::Leaf => top,
@@ -107,7 +120,11 @@ fn turn_left(mut top: Box<Node>) -> Box<Node>
 
 // The same entries, with a right side that is no higher than the left one.
 fn lean_left(tree: Tree) -> Tree
-    ensures { entries_of result ≡ entries_of tree }
+    requires some { 0 < height_of tree }
+    requires low { IsLow (height_of tree) }
+    requires balanced { IsBalanced tree }
+    ensures entries { entries_of result ≡ entries_of tree }
+    ensures leans { LeansLeft (height_of tree) result }
 {
     match tree {
         Tree::Leaf => Tree::Leaf,
@@ -123,7 +140,11 @@ fn lean_left(tree: Tree) -> Tree
 
 // The same entries, with a left side that is no higher than the right one.
 fn lean_right(tree: Tree) -> Tree
-    ensures { entries_of result ≡ entries_of tree }
+    requires some { 0 < height_of tree }
+    requires low { IsLow (height_of tree) }
+    requires balanced { IsBalanced tree }
+    ensures entries { entries_of result ≡ entries_of tree }
+    ensures leans { LeansRight (height_of tree) result }
 {
     match tree {
         Tree::Leaf => Tree::Leaf,
@@ -137,15 +158,22 @@ fn lean_right(tree: Tree) -> Tree
     }
 }
 
-/// The same entries where one side became one level higher or lower; then the heights of the sides differ by one at most.
+/// The same entries where the heights of the sides may differ by two; then they differ by one at most.
 pub fn balanced(mut node: Box<Node>) -> Box<Node>
-    ensures { entries_below result.value ≡ entries_below node.value }
+    requires is_left { IsBalanced node.value.left }
+    requires is_right { IsBalanced node.value.right }
+    requires left { height_of node.value.left ≤ height_of node.value.right + 2 }
+    requires right { height_of node.value.right ≤ height_of node.value.left + 2 }
+    requires low { IsLow (height_of node.value.left) × IsLow (height_of node.value.right) }
+    ensures entries { entries_below result.value ≡ entries_below node.value }
+    ensures balanced { IsBalancedBelow result.value }
+    ensures height { IsMended (height_of node.value.left) (height_of node.value.right) result.value.height }
 {
     let (left, right) = (node.left.height(), node.right.height());
-    if left > right.saturating_add(1) {
+    if left > right + 1 {
         node.left = lean_left(node.left.take());
         turn_right(node)
-    } else if right > left.saturating_add(1) {
+    } else if right > left + 1 {
         node.right = lean_right(node.right.take());
         turn_left(node)
     } else {

@@ -24,13 +24,13 @@ impl Model for Table {
     ghost use Rattle.std.specs.Prelude.{map, vec_capacity};
     ghost use Rattle.xbgp_maps.specs.Mappings.{Mapping};
     ghost use Rattle.xbgp_maps.specs.Tables.{IsTable};
-    ghost use Rattle.xbgp_maps.specs.Trees.{entries_of};
+    ghost use Rattle.xbgp_maps.specs.Trees.{entries_of, IsBalanced};
 
     ghost Value = { Mapping };
 
     ghost view = { λ t. record { shape = t.shape; entries = entries_of t.root } };
 
-    ghost invariant = { λ t. IsTable (record { shape = t.shape; entries = entries_of t.root }) (map (λ n. n.value) t.spare.items) (vec_capacity t.spare) };
+    ghost invariant = { λ t. IsTable (record { shape = t.shape; entries = entries_of t.root }) (map (λ n. n.value) t.spare.items) (vec_capacity t.spare) × IsBalanced t.root };
 }
 
 // Nodes for all entries of a map.

@@ -1,9 +1,9 @@
 // A search tree of entries by rising key: look-ups, writes and removals, each by one way down.
-ghost use Rattle.std.specs.Prelude.{◌≡◌, ◌∷◌, ◌++◌, length, None, Some, IsSome};
+ghost use Rattle.std.specs.Prelude.{◌≡◌, ◌+◌, ◌≤◌, ◌∷◌, ◌++◌, length, max, None, Some, IsSome};
 ghost use Rattle.std.specs.Option.{option_map};
 ghost use Rattle.xb_words.specs.Table.{entry_after, first as first_entry, value_at, with_value, without, IsRising};
 ghost use Rattle.xbgp_maps.specs.Mappings.{key_cmp};
-ghost use Rattle.xbgp_maps.specs.Trees.{entries_of, entries_below, entry_of, HaveWidth, IsAlone, IsTaken};
+ghost use Rattle.xbgp_maps.specs.Trees.{entries_of, entries_below, entry_of, height_of, HaveWidth, IsAlone, IsBalanced, IsBalancedBelow, IsLow, IsNext, IsTaken};
 
 use crate::node::{Node, Tree, balanced};
 use std::cmp::Ordering;
@@ -79,7 +79,10 @@ pub fn overwrite(tree: &mut Tree, key: &[u8], value: &[u8])
     requires rising { IsRising key_cmp (entries_of tree.old) }
     requires widths { HaveWidth (length value.now) (entries_of tree.old) }
     requires there { IsSome (value_at key_cmp (entries_of tree.old) key.now) }
-    ensures { entries_of tree.new ≡ with_value key_cmp (entries_of tree.old) key.now value.now }
+    requires balanced { IsBalanced tree.old }
+    ensures entries { entries_of tree.new ≡ with_value key_cmp (entries_of tree.old) key.now value.now }
+    ensures balanced { IsBalanced tree.new }
+    ensures height { height_of tree.new ≡ height_of tree.old }
 {
     if let Tree::Fork(node) = tree {
         let node = &mut **node;
@@ -96,10 +99,14 @@ fn with_node(tree: Tree, new: Box<Node>) -> Tree
     requires rising { IsRising key_cmp (entries_of tree) }
     requires alone { IsAlone new.value }
     requires absent { value_at key_cmp (entries_of tree) new.value.key.items ≡ None }
-    ensures { entries_of result ≡ with_value key_cmp (entries_of tree) new.value.key.items new.value.value.items }
+    requires balanced { IsBalanced tree }
+    requires low { IsLow (height_of tree) }
+    ensures entries { entries_of result ≡ with_value key_cmp (entries_of tree) new.value.key.items new.value.value.items }
+    ensures balanced { IsBalanced result }
+    ensures height { IsNext (height_of tree) (height_of result) }
 {
     match tree {
-        // it may have the height of another place still
+        // it has the height of its last place still
         Tree::Leaf => Tree::Fork(balanced(new)),
         Tree::Fork(mut node) => {
             match new.key.as_slice().cmp(&node.key.as_slice()) {
@@ -121,15 +128,22 @@ pub fn insert(tree: &mut Tree, new: Box<Node>)
     requires rising { IsRising key_cmp (entries_of tree.old) }
     requires alone { IsAlone new.value }
     requires absent { value_at key_cmp (entries_of tree.old) new.value.key.items ≡ None }
-    ensures { entries_of tree.new ≡ with_value key_cmp (entries_of tree.old) new.value.key.items new.value.value.items }
+    requires balanced { IsBalanced tree.old }
+    requires low { IsLow (height_of tree.old) }
+    ensures entries { entries_of tree.new ≡ with_value key_cmp (entries_of tree.old) new.value.key.items new.value.value.items }
+    ensures balanced { IsBalanced tree.new }
 {
     *tree = with_node(tree.take(), new);
 }
 
 // Takes the node of the least key out, which then is alone.
 fn without_least(mut top: Box<Node>) -> (Box<Node>, Tree)
+    requires balanced { IsBalancedBelow top.value }
+    requires low { IsLow top.value.height }
     ensures entries { entries_below top.value ≡ entry_of result.0.value ∷ entries_of result.1 }
     ensures alone { IsAlone result.0.value }
+    ensures balanced { IsBalanced result.1 }
+    ensures height { IsNext (height_of result.1) top.value.height }
 {
     match top.left.take() {
         Tree::Leaf => {
@@ -146,7 +160,14 @@ fn without_least(mut top: Box<Node>) -> (Box<Node>, Tree)
 
 // One tree of two, where all keys of the first are below those of the second.
 fn joined(left: Tree, right: Tree) -> Tree
-    ensures { entries_of result ≡ entries_of left ++ entries_of right }
+    requires is_left { IsBalanced left }
+    requires is_right { IsBalanced right }
+    requires left { height_of left ≤ height_of right + 1 }
+    requires right { height_of right ≤ height_of left + 1 }
+    requires low { IsLow (height_of left) × IsLow (height_of right) }
+    ensures entries { entries_of result ≡ entries_of left ++ entries_of right }
+    ensures balanced { IsBalanced result }
+    ensures height { IsNext (max (height_of left) (height_of right)) (height_of result) }
 {
     match right {
         Tree::Leaf => left,
@@ -161,8 +182,12 @@ fn joined(left: Tree, right: Tree) -> Tree
 
 #[tactic(auto, using(crate::proofs::Trees::removal))]
 fn without_node(tree: Tree, key: &[u8]) -> (Tree, Option<Box<Node>>)
-    requires { IsRising key_cmp (entries_of tree) }
+    requires rising { IsRising key_cmp (entries_of tree) }
+    requires balanced { IsBalanced tree }
+    requires low { IsLow (height_of tree) }
     ensures entries { entries_of result.0 ≡ without key_cmp (entries_of tree) key.now }
+    ensures balanced { IsBalanced result.0 }
+    ensures height { IsNext (height_of result.0) (height_of tree) }
     ensures taken { IsTaken (entries_of tree) key.now (option_map (λ n. n.value) result.1) }
 {
     match tree {
@@ -189,8 +214,11 @@ fn without_node(tree: Tree, key: &[u8]) -> (Tree, Option<Box<Node>>)
 
 /// Takes the node at a key out, if there is one; then it is alone.
 pub fn remove(tree: &mut Tree, key: &[u8]) -> Option<Box<Node>>
-    requires { IsRising key_cmp (entries_of tree.old) }
+    requires rising { IsRising key_cmp (entries_of tree.old) }
+    requires balanced { IsBalanced tree.old }
+    requires low { IsLow (height_of tree.old) }
     ensures entries { entries_of tree.new ≡ without key_cmp (entries_of tree.old) key.now }
+    ensures balanced { IsBalanced tree.new }
     ensures taken { IsTaken (entries_of tree.old) key.now (option_map (λ n. n.value) result) }
 {
     let (rest, taken) = without_node(tree.take(), key);

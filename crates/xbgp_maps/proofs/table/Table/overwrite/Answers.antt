@@ -9,4 +9,4 @@ invariant_of-self c =
     let m : Mapping = record { shape = c.self.inside.shape; entries = entries_of c.self.inside.root } in
     let there : IsSome (value_in m c.args.key.now) = rw (← c.self.view_is) at c.requires.there in
     let width : length c.args.value.now ≡ m.shape.value = rw (← c.self.view_is) at c.requires.width in
-    rw c.overwrite.ensures (table_over m _ _ c.args.key.now c.args.value.now c.self.invariant there width)
+    (rw c.overwrite.ensures.entries (table_over m _ _ c.args.key.now c.args.value.now c.self.invariant.0 there width), c.overwrite.ensures.balanced)
