@@ -83,7 +83,12 @@ const PEERS_AND_COSTS: [Case; 11] = [
         Part::Peer,
         1,
     ),
-    ("peer = [{as = 0, address = 5}]", BadKind::Range, Part::Peer, 1),
+    (
+        "peer = [{as = 0, address = 5}]",
+        BadKind::Range,
+        Part::Peer,
+        1,
+    ),
     (
         "peer = [{as = 0, address = '192.0.2.254'}]",
         BadKind::Range,
