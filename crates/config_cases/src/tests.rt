@@ -16,6 +16,10 @@ type Case = (&'static str, BadKind, Part, u32);
 // A speaker's table without a fault.
 const SPEAKER: &str = "speaker = {as = 65000, id = '192.0.2.254', address = '192.0.2.254'}\n";
 
+fn fault(kind: BadKind, part: Part, index: u32) -> Option<ConfigFault> {
+    Some(ConfigFault { kind, part, index })
+}
+
 fn fault_in(alloc: Global, text: &[u8]) -> Result<Option<ConfigFault>, Fail> {
     match read_config(alloc, text) {
         Ok(_) => Ok(None),
@@ -28,12 +32,8 @@ fn fault_in(alloc: Global, text: &[u8]) -> Result<Option<ConfigFault>, Fail> {
 fn expect_faults(rt: &impl Abort, alloc: Global, before: &str, cases: &[Case]) -> Result<(), Fail> {
     for (text, kind, part, index) in cases {
         let whole = format!(in alloc; "{before}{text}")?;
-        let want = ConfigFault {
-            kind: *kind,
-            part: *part,
-            index: *index,
-        };
-        assert_eq!(rt; fault_in(alloc, whole.as_bytes())?, Some(want), "{text}");
+        let want = fault(*kind, *part, *index);
+        assert_eq!(rt; fault_in(alloc, whole.as_bytes())?, want, "{text}");
     }
     Ok(())
 }

@@ -27,28 +27,28 @@ number_above least most n text (Some m) is e =
 between : (least most n : ℕ) (text : List ℕ) → at_least least (number_up_to most text) ≡ Some n → (least ≤ n) × (n ≤ most)
 between least most n text e = number_above least most n text (number_up_to most text) refl e
 
-picked : (test : Bool) (f g : Option (ℕ → Event)) (h : ℕ → Event) → (if test then f else g) ≡ Some h → (f ≡ Some h) ⊎ (g ≡ Some h)
-picked true f g h e = inl e
-picked false f g h e = inr e
+chosen : {A : Type 0} (test : Bool) (f g : Option A) (b : A) → (if test then f else g) ≡ Some b → (f ≡ Some b) ⊎ (g ≡ Some b)
+chosen true f g b e = inl e
+chosen false f g b e = inr e
 
 of_peer : (peers now p : ℕ) (f h : ℕ → Event) → IsFor peers now (f p) → Some f ≡ Some h → IsFor peers now (h p)
 of_peer peers now p f h fits e = let same : f ≡ h = cc e in subst (λ (g : ℕ → Event). IsFor peers now (g p)) same fits
 
 peer_event_fits : (peers now p : ℕ) (word : List ℕ) (h : ℕ → Event) → (1 ≤ p) × (p ≤ peers) → peer_event word ≡ Some h → IsFor peers now (h p)
 peer_event_fits peers now p word h fits e =
-    elim (picked (bytes_eq word (codes "start")) _ _ h e) [
+    elim (chosen (bytes_eq word (codes "start")) _ _ h e) [
       | inl is ↦ of_peer peers now p start h fits is
       | inr e ↦
-          elim (picked (bytes_eq word (codes "stop")) _ _ h e) [
+          elim (chosen (bytes_eq word (codes "stop")) _ _ h e) [
             | inl is ↦ of_peer peers now p stop h fits is
             | inr e ↦
-                elim (picked (bytes_eq word (codes "up")) _ _ h e) [
+                elim (chosen (bytes_eq word (codes "up")) _ _ h e) [
                   | inl is ↦ of_peer peers now p up h fits is
                   | inr e ↦
-                      elim (picked (bytes_eq word (codes "down")) _ _ h e) [
+                      elim (chosen (bytes_eq word (codes "down")) _ _ h e) [
                         | inl is ↦ of_peer peers now p down h fits is
                         | inr e ↦
-                            elim (picked (bytes_eq word (codes "drain")) _ _ h e) [
+                            elim (chosen (bytes_eq word (codes "drain")) _ _ h e) [
                               | inl is ↦ of_peer peers now p drain h fits is
                               | inr none ↦ cc none
                             ]
@@ -56,10 +56,6 @@ peer_event_fits peers now p word h fits e =
                 ]
           ]
     ]
-
-chosen : {A : Type 0} (test : Bool) (f g : Option A) (b : A) → (if test then f else g) ≡ Some b → (f ≡ Some b) ⊎ (g ≡ Some b)
-chosen true f g b e = inl e
-chosen false f g b e = inr e
 
 fits_as : (peers now : ℕ) (e event : Event) → IsFor peers now e → Some e ≡ Some event → IsFor peers now event
 fits_as peers now e event fits is = let same : e ≡ event = cc is in subst (IsFor peers now) same fits

@@ -44,10 +44,7 @@ pub fn value_at<'a>(table: &'a Table, key: &str) -> Option<&'a Value>
 pub fn required<'a>(at: Place, key: &str, table: &'a Table) -> Result<&'a Value, Bad>
     ensures { result_map_both (λ v. view v.now) (λ bad. bad) result ≡ found at Missing (get_member key.now (table_view table.now)) }
 {
-    match value_at(table, key) {
-        Some(value) => Ok(value),
-        None => Err(at.bad(BadKind::Missing)),
-    }
+    value_at(table, key).ok_or(at.bad(BadKind::Missing))
 }
 
 /// The number at a key that must be there.
@@ -62,10 +59,7 @@ pub fn required_number(
     ensures value { result ≡ required at key.now (number at least most) (table_view table.now) }
     ensures between { IfOk result (λ n. (least ≤ n) × (n ≤ most)) }
 {
-    match value_at(table, key) {
-        Some(value) => number(at, least, most, value),
-        None => Err(at.bad(BadKind::Missing)),
-    }
+    number(at, least, most, required(at, key, table)?)
 }
 
 /// The number at a key that may be absent.
@@ -91,10 +85,7 @@ pub fn optional_number(
 pub fn required_text<'a>(at: Place, key: &str, table: &'a Table) -> Result<&'a str, Bad>
     ensures { result_map_both (λ s. s.now) (λ bad. bad) result ≡ required at key.now (string_in at) (table_view table.now) }
 {
-    match value_at(table, key) {
-        Some(value) => text(at, value),
-        None => Err(at.bad(BadKind::Missing)),
-    }
+    text(at, required(at, key, table)?)
 }
 
 /// The values of the array at a key, which are none where it is absent.

@@ -53,10 +53,7 @@ fn number_between(least: u32, most: u32, n: i64) -> Option<u32>
 pub fn text(at: Place, value: &Value) -> Result<&str, Bad>
     ensures { result_map_both (λ s. s.now) (λ bad. bad) result ≡ string_in at (view value.now) }
 {
-    match value.as_str() {
-        Some(text) => Ok(text),
-        None => Err(at.bad(BadKind::Shape)),
-    }
+    value.as_str().ok_or(at.bad(BadKind::Shape))
 }
 
 /// The values of an array that has at most so many.

@@ -1,13 +1,14 @@
 -- Addresses and prefixes that texts say are in their ranges.
-use Rattle.std.proofs.Common.{◌≡◌, ℕ, ◌<◌, ◌≤◌, ◌^◌, Bool, true, ◌&&◌, List, [], ◌∷◌, length, Option, Some, None, nat_le, refl, arith, inl, inr}
+use Rattle.std.proofs.Common.{◌≡◌, ℕ, ◌<◌, ◌≤◌, ◌^◌, Bool, true, List, [], ◌∷◌, length, Option, Some, None, refl, sym, arith, inl, inr}
 use Rattle.std.specs.Prelude.{◌==◌}
 use Rattle.std.specs.Option.{option_map}
-use Rattle.std.proofs.lemmas.Bool.{cases_Bool, and_parts, leb-true, eqb-true}
+use Rattle.std.proofs.lemmas.Bool.{cases_Bool, eqb-true}
 use Rattle.xb_words.specs.Octets.{four_at}
 use Rattle.xb_words.specs.Optional.{◌>>=◌}
 use Rattle.xb_base.specs.Prefixes.{Prefix, IsPrefix, prefix_of}
 use Rattle.xb_base.proofs.PrefixLemmas.{prefix_is_one}
-use Rattle.xb_base.specs.Readers.{parts, is_decimal, digits_value, number_up_to, octet_texts, read_dotted, prefix_in, read_prefix}
+use Rattle.xb_base.proofs.ReaderLemmas.{number_fits}
+use Rattle.xb_base.specs.Readers.{parts, number_up_to, octet_texts, read_dotted, prefix_in, read_prefix}
 use Rattle.xb_fields.proofs.Accepted.{guarded}
 use Rattle.xbgp_config.specs.Configs.{passing}
 
@@ -15,11 +16,6 @@ use Rattle.xbgp_config.specs.Configs.{passing}
 some_of : {A B : Type 0} (o : Option A) (f : A → Option B) (y : B) → (o >>= f) ≡ Some y → (x : A) × (o ≡ Some x) × (f x ≡ Some y)
 some_of None f y e = absurd (cc e)
 some_of (Some x) f y e = (x, refl, e)
-
-number_small : (limit : ℕ) (text : List ℕ) (n : ℕ) → number_up_to limit text ≡ Some n → n ≤ limit
-number_small limit text n e =
-    let g = guarded (is_decimal text && nat_le (digits_value text) limit) (digits_value text) n e in
-    rw (← g.1) (leb-true _ _ (and_parts (is_decimal text) (nat_le (digits_value text) limit) g.0).1)
 
 four_small : (a b c d : ℕ) → a ≤ 255 → b ≤ 255 → c ≤ 255 → d ≤ 255 → four_at (a ∷ b ∷ c ∷ d ∷ []) 0 < 2 ^ 32
 four_small a b c d ha hb hc hd = omega arith
@@ -40,7 +36,7 @@ split_octets : (text : List ℕ) (texts : List (List ℕ)) (ns : List ℕ) → o
 split_octets text texts ns e =
     let a = some_of (number_up_to 255 text) (λ m. octet_texts texts >>= (λ ms. Some (m ∷ ms))) ns e in
     let b = some_of (octet_texts texts) (λ ms. Some (a.0 ∷ ms)) ns a.2 in
-    record { first = a.0; others = b.0; small = number_small 255 text a.0 a.1; read = b.1; whole = cc b.2 }
+    record { first = a.0; others = b.0; small = number_fits 255 a.0 text (sym a.1); read = b.1; whole = cc b.2 }
 
 texts_small : (texts : List (List ℕ)) (a : ℕ) → length texts ≡ 4 → option_map (λ ns. four_at ns 0) (octet_texts texts) ≡ Some a → a < 2 ^ 32
 texts_small [] a h e = absurd (omega arith)
@@ -72,7 +68,7 @@ prefix_small (a ∷ l ∷ []) p e =
     let x = some_of (read_dotted a) (λ m. number_up_to 32 l >>= (λ n. Some (prefix_of m n))) p e in
     let y = some_of (number_up_to 32 l) (λ n. Some (prefix_of x.0 n)) p x.2 in
     let same : prefix_of x.0 y.0 ≡ p = cc y.2 in
-    rw (← same) (prefix_is_one x.0 y.0 (address_small a x.0 x.1) (number_small 32 l y.0 y.1))
+    rw (← same) (prefix_is_one x.0 y.0 (address_small a x.0 x.1) (number_fits 32 y.0 l (sym y.1)))
 prefix_small (a ∷ l ∷ t ∷ texts) p e = absurd (cc e)
 
 -- a text of a prefix says one

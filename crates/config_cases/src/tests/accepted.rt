@@ -1,7 +1,6 @@
 // What accepted configurations hold.
-use super::{Case, expect_faults};
 use std::test::Fail;
-use xb_base::{BadKind, Part, Prefix, Side};
+use xb_base::{Prefix, Side};
 use xbgp_config::{CostEntry, PeerEntry, read_config};
 
 const THREE_PEERS: &str = "[speaker]
@@ -28,28 +27,6 @@ address = '192.0.2.254'
 id = '192.0.2.253'
 as = 65000
 ";
-
-// The three peers, with a line that is another.
-const CHANGED: [Case; 3] = [
-    (
-        "[speaker]\nas = 65000\nid = '192.0.2.254'\naddress = '192.0.2.254'\n[[peer]]\nas = 65001\naddress = '192.0.2.1'\n[[peer]]\nas = 65002\naddress = '192.0.2.1'\n[[peer]]\nas = 65003\naddress = '192.0.2.3'\n",
-        BadKind::Double,
-        Part::Peer,
-        2,
-    ),
-    (
-        "[speaker]\nas = 65000\nid = '192.0.2.254'\naddress = '192.0.2.254'\nhold = 2\n[[peer]]\nas = 65001\naddress = '192.0.2.1'\n",
-        BadKind::Range,
-        Part::Speaker,
-        0,
-    ),
-    (
-        "mtu = 1500\n[speaker]\nas = 65000\nid = '192.0.2.254'\naddress = '192.0.2.254'\n[[peer]]\nas = 65001\naddress = '192.0.2.1'\n",
-        BadKind::Key,
-        Part::Top,
-        0,
-    ),
-];
 
 #[test]
 fn defaults_are_taken(rt: HostRuntime) -> Result<(), Fail> {
@@ -92,9 +69,4 @@ fn keys_are_read_in_any_order(rt: HostRuntime) -> Result<(), Fail> {
     };
     assert_eq!(rt; *config.costs.get(0), cost);
     Ok(())
-}
-
-#[test]
-fn one_line_that_is_another_is_refused(rt: HostRuntime) -> Result<(), Fail> {
-    expect_faults(&rt, rt.alloc(), "", &CHANGED)
 }

@@ -1,8 +1,7 @@
 // The top table and the speaker's.
-use super::{Case, SPEAKER, expect_faults, expect_good, fault_in};
+use super::{Case, SPEAKER, expect_faults, expect_good, fault, fault_in};
 use std::test::Fail;
 use xb_base::{BadKind, Part};
-use xbgp_config::ConfigFault;
 
 const TOP: [Case; 11] = [
     ("", BadKind::Missing, Part::Top, 0),
@@ -111,12 +110,8 @@ fn top_keys_are_judged(rt: HostRuntime) -> Result<(), Fail> {
 
 #[test]
 fn octets_that_are_no_text_are_refused(rt: HostRuntime) -> Result<(), Fail> {
-    let want = ConfigFault {
-        kind: BadKind::Text,
-        part: Part::Top,
-        index: 0,
-    };
-    assert_eq!(rt; fault_in(rt.alloc(), &[b'#', 0xff, b'\n'])?, Some(want));
+    let want = fault(BadKind::Text, Part::Top, 0);
+    assert_eq!(rt; fault_in(rt.alloc(), &[b'#', 0xff, b'\n'])?, want);
     Ok(())
 }
 
@@ -143,6 +138,6 @@ fn other_keys_of_the_speaker_are_judged(rt: HostRuntime) -> Result<(), Fail> {
 
 #[test]
 fn the_ends_of_ranges_are_accepted(rt: HostRuntime) -> Result<(), Fail> {
-    let before = "[speaker]\nas = 65535\nid = '0.0.0.1'\naddress = '128.0.0.0'\n";
+    let before = "[speaker]\nas = 65535\nid = '255.255.255.255'\naddress = '128.0.0.0'\n";
     expect_good(&rt, rt.alloc(), before, &IN_RANGE)
 }
