@@ -1,8 +1,7 @@
 // So many entries and digits as there may be, and more.
-use super::{fault, fault_in};
+use super::{expect_fault, expect_good};
 use std::alloc::{AllocError, Global};
 use std::test::Fail;
-use xb_base::{BadKind, Part};
 
 const EXIT: &str = "9500000000000000";
 
@@ -45,46 +44,34 @@ fn moves(alloc: Global, count: u32, end: &str) -> Result<String, AllocError> {
 #[test]
 fn entries_are_counted(rt: HostRuntime) -> Result<(), Fail> {
     let alloc = rt.alloc();
-    let want = fault(BadKind::Count, Part::Top, 0, 0);
-    assert_eq!(rt; fault_in(alloc, maps(alloc, 16)?.as_bytes())?, None);
-    assert_eq!(rt; fault_in(alloc, maps(alloc, 17)?.as_bytes())?, want);
-    assert_eq!(rt; fault_in(alloc, programs(alloc, 32)?.as_bytes())?, None);
-    assert_eq!(rt; fault_in(alloc, programs(alloc, 33)?.as_bytes())?, want);
-    Ok(())
+    expect_good(&rt, maps(alloc, 16)?.as_bytes(), 16, 0)?;
+    expect_fault(&rt, maps(alloc, 17)?.as_bytes(), "count top 0 0")?;
+    expect_good(&rt, programs(alloc, 32)?.as_bytes(), 0, 32)?;
+    expect_fault(&rt, programs(alloc, 33)?.as_bytes(), "count top 0 0")
 }
 
 // Too many entries, of which the last is faulty besides.
 #[test]
 fn a_list_is_counted_before_its_entries(rt: HostRuntime) -> Result<(), Fail> {
     let alloc = rt.alloc();
-    let want = fault(BadKind::Count, Part::Top, 0, 0);
     let mut text = maps(alloc, 16)?;
     text.push_str("[[map]]\nname = 'm0'\n")?;
-    assert_eq!(rt; fault_in(alloc, text.as_bytes())?, want);
+    expect_fault(&rt, text.as_bytes(), "count top 0 0")?;
     let mut text = programs(alloc, 32)?;
     text.push_str("[[program]]\nname = 'p0'\n")?;
-    assert_eq!(rt; fault_in(alloc, text.as_bytes())?, want);
-    Ok(())
+    expect_fault(&rt, text.as_bytes(), "count top 0 0")
 }
 
 // 4,096 slots are 65,536 digits.
 #[test]
 fn digits_are_counted(rt: HostRuntime) -> Result<(), Fail> {
     let alloc = rt.alloc();
-    let want = fault(BadKind::Range, Part::Program, 1, 0);
-    assert_eq!(rt;
-        fault_in(alloc, moves(alloc, 4095, EXIT)?.as_bytes())?,
-        None
-    );
-    assert_eq!(rt;
-        fault_in(alloc, moves(alloc, 4096, "95")?.as_bytes())?,
-        want
-    );
-    assert_eq!(rt;
-        fault_in(alloc, moves(alloc, 4096, EXIT)?.as_bytes())?,
-        want
-    );
-    let open = fault(BadKind::OpenEnd, Part::Program, 1, 4095);
-    assert_eq!(rt; fault_in(alloc, moves(alloc, 4096, "")?.as_bytes())?, open);
-    Ok(())
+    let most = moves(alloc, 4095, EXIT)?;
+    expect_good(&rt, most.as_bytes(), 0, 1)?;
+    let two_digits_more = moves(alloc, 4096, "95")?;
+    expect_fault(&rt, two_digits_more.as_bytes(), "range program 1 0")?;
+    let a_slot_more = moves(alloc, 4096, EXIT)?;
+    expect_fault(&rt, a_slot_more.as_bytes(), "range program 1 0")?;
+    let without_end = moves(alloc, 4096, "")?;
+    expect_fault(&rt, without_end.as_bytes(), "openend program 1 4095")
 }

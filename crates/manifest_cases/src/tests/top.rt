@@ -1,41 +1,28 @@
 // The top table.
-use super::{Case, expect_faults, expect_good, fault, fault_in};
+use super::{Case, expect_fault, expect_faults, expect_good};
 use std::test::Fail;
-use xb_base::{BadKind, Part};
 
 const TOP: [Case; 20] = [
-    ("", BadKind::Missing, Part::Top, 0, 0),
-    ("map = []", BadKind::Missing, Part::Top, 0, 0),
-    ("[version", BadKind::Text, Part::Top, 0, 0),
-    (
-        "version = 9223372036854775808",
-        BadKind::Text,
-        Part::Top,
-        0,
-        0,
-    ),
-    ("version = 1\nversion = 1", BadKind::Text, Part::Top, 0, 0),
-    ("version = '1'", BadKind::Shape, Part::Top, 0, 0),
-    ("version = 1.0", BadKind::Shape, Part::Top, 0, 0),
-    ("version = true", BadKind::Shape, Part::Top, 0, 0),
-    ("version = [1]", BadKind::Shape, Part::Top, 0, 0),
-    ("version = 0", BadKind::Range, Part::Top, 0, 0),
-    ("version = 2", BadKind::Range, Part::Top, 0, 0),
-    ("version = -1", BadKind::Range, Part::Top, 0, 0),
-    ("version = 1\npeer = []", BadKind::Key, Part::Top, 0, 0),
-    ("version = 1\nMap = []", BadKind::Key, Part::Top, 0, 0),
-    ("version = 1\nmap = 5", BadKind::Shape, Part::Top, 0, 0),
-    ("version = 1\nmap = {}", BadKind::Shape, Part::Top, 0, 0),
-    ("version = 1\nmap = 'a'", BadKind::Shape, Part::Top, 0, 0),
-    ("version = 1\nprogram = 5", BadKind::Shape, Part::Top, 0, 0),
-    ("version = 1\n[program]", BadKind::Shape, Part::Top, 0, 0),
-    (
-        "version = 1\nprogram = false",
-        BadKind::Shape,
-        Part::Top,
-        0,
-        0,
-    ),
+    ("", "missing top 0 0"),
+    ("map = []", "missing top 0 0"),
+    ("[version", "text top 0 0"),
+    ("version = 9223372036854775808", "text top 0 0"),
+    ("version = 1\nversion = 1", "text top 0 0"),
+    ("version = '1'", "type top 0 0"),
+    ("version = 1.0", "type top 0 0"),
+    ("version = true", "type top 0 0"),
+    ("version = [1]", "type top 0 0"),
+    ("version = 0", "range top 0 0"),
+    ("version = 2", "range top 0 0"),
+    ("version = -1", "range top 0 0"),
+    ("version = 1\npeer = []", "key top 0 0"),
+    ("version = 1\nMap = []", "key top 0 0"),
+    ("version = 1\nmap = 5", "type top 0 0"),
+    ("version = 1\nmap = {}", "type top 0 0"),
+    ("version = 1\nmap = 'a'", "type top 0 0"),
+    ("version = 1\nprogram = 5", "type top 0 0"),
+    ("version = 1\n[program]", "type top 0 0"),
+    ("version = 1\nprogram = false", "type top 0 0"),
 ];
 
 const GOOD: [&str; 5] = [
@@ -48,13 +35,14 @@ const GOOD: [&str; 5] = [
 
 #[test]
 fn top_keys_are_judged(rt: HostRuntime) -> Result<(), Fail> {
-    expect_faults(&rt, rt.alloc(), "", &TOP)?;
-    expect_good(&rt, rt.alloc(), "", &GOOD)
+    expect_faults(&rt, "", &TOP, "")?;
+    for text in GOOD {
+        expect_good(&rt, text.as_bytes(), 0, 0)?;
+    }
+    Ok(())
 }
 
 #[test]
 fn octets_that_are_no_text_are_refused(rt: HostRuntime) -> Result<(), Fail> {
-    let want = fault(BadKind::Text, Part::Top, 0, 0);
-    assert_eq!(rt; fault_in(rt.alloc(), &[b'#', 0xff, b'\n'])?, want);
-    Ok(())
+    expect_fault(&rt, &[b'#', 0xff, b'\n'], "text top 0 0")
 }
