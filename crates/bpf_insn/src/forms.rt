@@ -25,7 +25,7 @@ pub fn code_of(opcode: u8) -> u8
 }
 
 /// Arithmetic with two operands.
-pub fn is_alu(opcode: u8) -> bool
+pub(crate) fn is_alu(opcode: u8) -> bool
     ensures { result ≡ is_alu opcode }
 {
     let code = code_of(opcode);
@@ -33,21 +33,21 @@ pub fn is_alu(opcode: u8) -> bool
 }
 
 /// NEG.
-pub fn is_neg(opcode: u8) -> bool
+pub(crate) fn is_neg(opcode: u8) -> bool
     ensures { result ≡ is_neg opcode }
 {
     opcode == 0x84 || opcode == 0x87
 }
 
 /// END, a conversion of the order of octets.
-pub fn is_end(opcode: u8) -> bool
+pub(crate) fn is_end(opcode: u8) -> bool
     ensures { result ≡ is_end opcode }
 {
     opcode == 0xd4 || opcode == 0xdc || opcode == 0xd7
 }
 
 /// A conditional jump.
-pub fn is_condition(opcode: u8) -> bool
+pub(crate) fn is_condition(opcode: u8) -> bool
     ensures { result ≡ is_condition opcode }
 {
     let code = code_of(opcode);
@@ -56,63 +56,63 @@ pub fn is_condition(opcode: u8) -> bool
 }
 
 /// JA, by the offset or by the immediate.
-pub fn is_ja(opcode: u8) -> bool
+pub(crate) fn is_ja(opcode: u8) -> bool
     ensures { result ≡ is_ja opcode }
 {
     opcode == 5 || opcode == 6
 }
 
 /// CALL of a helper.
-pub fn is_call(opcode: u8) -> bool
+pub(crate) fn is_call(opcode: u8) -> bool
     ensures { result ≡ is_call opcode }
 {
     opcode == 0x85
 }
 
 /// EXIT.
-pub fn is_exit(opcode: u8) -> bool
+pub(crate) fn is_exit(opcode: u8) -> bool
     ensures { result ≡ is_exit opcode }
 {
     opcode == 0x95
 }
 
 /// The 64-bit load, which takes two slots.
-pub fn is_wide(opcode: u8) -> bool
+pub(crate) fn is_wide(opcode: u8) -> bool
     ensures { result ≡ is_wide opcode }
 {
     opcode == 0x18
 }
 
 /// A load from memory, extended by zeros.
-pub fn is_load(opcode: u8) -> bool
+pub(crate) fn is_load(opcode: u8) -> bool
     ensures { result ≡ is_load opcode }
 {
     (opcode == 0x61 || opcode == 0x69) || (opcode == 0x71 || opcode == 0x79)
 }
 
 /// A load from memory, extended by the sign.
-pub fn is_signed_load(opcode: u8) -> bool
+pub(crate) fn is_signed_load(opcode: u8) -> bool
     ensures { result ≡ is_signed_load opcode }
 {
     opcode == 0x81 || opcode == 0x89 || opcode == 0x91
 }
 
 /// A store of the immediate.
-pub fn is_store(opcode: u8) -> bool
+pub(crate) fn is_store(opcode: u8) -> bool
     ensures { result ≡ is_store opcode }
 {
     (opcode == 0x62 || opcode == 0x6a) || (opcode == 0x72 || opcode == 0x7a)
 }
 
 /// A store of a register.
-pub fn is_register_store(opcode: u8) -> bool
+pub(crate) fn is_register_store(opcode: u8) -> bool
     ensures { result ≡ is_register_store opcode }
 {
     (opcode == 0x63 || opcode == 0x6b) || (opcode == 0x73 || opcode == 0x7b)
 }
 
 /// Whether a form has the opcode.
-pub fn is_opcode(opcode: u8) -> bool
+pub(crate) fn is_opcode(opcode: u8) -> bool
     ensures { result ≡ is_opcode opcode }
 {
     is_alu(opcode)
@@ -130,14 +130,14 @@ pub fn is_opcode(opcode: u8) -> bool
 }
 
 /// Whether the instruction has a target.
-pub fn jumps(opcode: u8) -> bool
+pub(crate) fn jumps(opcode: u8) -> bool
     ensures { result ≡ jumps opcode }
 {
     is_condition(opcode) || is_ja(opcode)
 }
 
 /// Whether the instruction writes its destination.
-pub fn writes_register(opcode: u8) -> bool
+pub(crate) fn writes_register(opcode: u8) -> bool
     ensures { result ≡ writes_register opcode }
 {
     is_alu(opcode)

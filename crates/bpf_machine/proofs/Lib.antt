@@ -2,4 +2,5 @@ pub mod Signs
 pub mod Stepping
 pub mod Following
 pub mod Turns
+pub mod FuelLemmas
 mod Rows

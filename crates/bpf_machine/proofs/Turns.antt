@@ -20,6 +20,15 @@ use Rattle.bpf_machine.proofs.Following.{Follows, follows}
 abbrev pub ended : {W : Type 0} → End → Memory → W → Ended W
 ended end memory world = record { end = end; memory = memory; world = world }
 
+-- a run has some end, memory and world
+pub record Has {W : Type 0} (end : End) (memory : Memory) (world : W) (run : Ended W) : Type 0 where
+  pub same_end : end ≡ run.end
+  pub same_memory : memory ≡ run.memory
+  pub same_world : world ≡ run.world
+
+pub has : {W : Type 0} (end : End) (memory : Memory) (world : W) (run : Ended W) → ended end memory world ≡ run → Has end memory world run
+has end memory world run is = record { same_end = ap (λ (e : Ended _). e.end) is; same_memory = ap (λ (e : Ended _). e.memory) is; same_world = ap (λ (e : Ended _). e.world) is }
+
 -- at first the whole run is left
 pub all_left : {W : Type 0} (help : Helps W) (code regs : List ℕ) (memory : Memory) (fuel : ℕ) (w : W) → regs ≡ (entry memory).regs → turns help code fuel (machine regs memory 0) w ≡ bpf help code memory fuel w
 unfolding bpf

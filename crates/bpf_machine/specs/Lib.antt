@@ -2,3 +2,4 @@ pub mod Words
 pub mod Steps
 pub mod Does
 pub mod Running
+pub mod Fuel

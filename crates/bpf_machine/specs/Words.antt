@@ -53,7 +53,8 @@ moved b offset y =
     else if offset == 32 then extended 32 b y
     else y
 
--- what an operation gives of two numbers of b bits; offset 1 makes DIV and MOD signed
+-- what an operation gives of two numbers of b bits; offset 1 makes DIV and MOD signed. The codes are 0 ADD, 1 SUB, 2 MUL, 3 DIV,
+-- 4 OR, 5 AND, 6 LSH, 7 RSH, 8 NEG, 9 MOD, 10 XOR, 11 MOV, 12 ARSH
 unfoldable pub result_of : ℕ → ℕ → ℕ → ℕ → ℕ → ℕ
 result_of b code offset x y =
     if code == 0 then (x + y) % 2 ^ b
@@ -74,7 +75,8 @@ result_of b code offset x y =
 abbrev pub is_below : ℕ → ℕ → ℕ → Bool
 is_below b x y = nat_lt ((x + 2 ^ (b - 1)) % 2 ^ b) ((y + 2 ^ (b - 1)) % 2 ^ b)
 
--- whether a comparison of two numbers of b bits holds (RFC 9669, 4.3)
+-- whether a comparison of two numbers of b bits holds (RFC 9669, 4.3). The codes are 1 JEQ, 2 JGT, 3 JGE, 4 JSET, 5 JNE,
+-- 6 JSGT, 7 JSGE, 10 JLT, 11 JLE, 12 JSLT, 13 JSLE
 unfoldable pub holds : ℕ → ℕ → ℕ → ℕ → Bool
 holds b code x y =
     if code == 1 then x == y

@@ -4,6 +4,10 @@ ghost use Rattle.bpf_mem.specs.Memory.{IsSize};
 ghost use Rattle.bpf_machine.specs.Words.{low, moved, result_of, holds, converted};
 ghost use Rattle.bpf_machine.specs.Steps.{computed, is_taken, size_of, loaded};
 
+use crate::codes::{
+    ADD, AND, DIV, END, JEQ, JGE, JGT, JLE, JLT, JNE, JSET, JSGE, JSGT, JSLT, LSH, MOD, MOV, MUL,
+    NEG, OR, RSH, SUB, XOR,
+};
 use crate::words::{
     extended_8, extended_16, extended_32, is_below_32, is_below_64, low_32, low_bits, offset_word,
     shifted_signed_32, shifted_signed_64, short_8, short_16, signed_quotient_32,
@@ -91,46 +95,46 @@ fn remainder_32(offset: u64, x: u32, y: u32) -> u32
     }
 }
 
-/// What an operation gives in 64 bits.
+/// What an operation gives in 64 bits; the last one is ARSH.
 #[tactic(auto, unfolding(crate::specs::Words::result_of))]
 fn result_64(code: u8, offset: u64, x: u64, y: u64) -> u64
     ensures { result ≡ result_of 64 code offset x y }
 {
     match code {
-        0 => x.wrapping_add(y),
-        1 => x.wrapping_sub(y),
-        2 => x.wrapping_mul(y),
-        3 => quotient_64(offset, x, y),
-        4 => x | y,
-        5 => x & y,
-        6 => x << (y % 64),
-        7 => x >> (y % 64),
-        8 => 0_u64.wrapping_sub(x),
-        9 => remainder_64(offset, x, y),
-        10 => x ^ y,
-        11 => moved_64(offset, y),
+        ADD => x.wrapping_add(y),
+        SUB => x.wrapping_sub(y),
+        MUL => x.wrapping_mul(y),
+        DIV => quotient_64(offset, x, y),
+        OR => x | y,
+        AND => x & y,
+        LSH => x << (y % 64),
+        RSH => x >> (y % 64),
+        NEG => 0_u64.wrapping_sub(x),
+        MOD => remainder_64(offset, x, y),
+        XOR => x ^ y,
+        MOV => moved_64(offset, y),
         _ => shifted_signed_64(x, y % 64),
     }
 }
 
-/// What an operation gives in 32 bits.
+/// What an operation gives in 32 bits; the last one is ARSH.
 #[tactic(auto, unfolding(crate::specs::Words::result_of))]
 fn result_32(code: u8, offset: u64, x: u32, y: u32) -> u32
     ensures { result ≡ result_of 32 code offset x y }
 {
     match code {
-        0 => x.wrapping_add(y),
-        1 => x.wrapping_sub(y),
-        2 => x.wrapping_mul(y),
-        3 => quotient_32(offset, x, y),
-        4 => x | y,
-        5 => x & y,
-        6 => x << (y % 32),
-        7 => x >> (y % 32),
-        8 => 0_u32.wrapping_sub(x),
-        9 => remainder_32(offset, x, y),
-        10 => x ^ y,
-        11 => moved_32(offset, y),
+        ADD => x.wrapping_add(y),
+        SUB => x.wrapping_sub(y),
+        MUL => x.wrapping_mul(y),
+        DIV => quotient_32(offset, x, y),
+        OR => x | y,
+        AND => x & y,
+        LSH => x << (y % 32),
+        RSH => x >> (y % 32),
+        NEG => 0_u32.wrapping_sub(x),
+        MOD => remainder_32(offset, x, y),
+        XOR => x ^ y,
+        MOV => moved_32(offset, y),
         _ => shifted_signed_32(x, y % 32),
     }
 }
@@ -160,7 +164,7 @@ pub(crate) fn computed(insn: Insn, x: u64, y: u64) -> u64
     ensures { result ≡ computed insn x y }
 {
     let code = code_of(insn.opcode);
-    if code == 13 {
+    if code == END {
         return converted(insn.opcode, low_32(insn.imm), x);
     }
     let offset = offset_word(insn);
@@ -171,42 +175,42 @@ pub(crate) fn computed(insn: Insn, x: u64, y: u64) -> u64
     }
 }
 
-/// Whether a comparison of 64 bits holds.
+/// Whether a comparison of 64 bits holds; the last one is JSLE.
 #[tactic(auto, unfolding(crate::specs::Words::holds))]
 fn holds_64(code: u8, x: u64, y: u64) -> bool
     ensures { result ≡ holds 64 code x y }
 {
     match code {
-        1 => x == y,
-        2 => x > y,
-        3 => x >= y,
-        4 => x & y != 0,
-        5 => x != y,
-        6 => is_below_64(y, x),
-        7 => !is_below_64(x, y),
-        10 => x < y,
-        11 => x <= y,
-        12 => is_below_64(x, y),
+        JEQ => x == y,
+        JGT => x > y,
+        JGE => x >= y,
+        JSET => x & y != 0,
+        JNE => x != y,
+        JSGT => is_below_64(y, x),
+        JSGE => !is_below_64(x, y),
+        JLT => x < y,
+        JLE => x <= y,
+        JSLT => is_below_64(x, y),
         _ => !is_below_64(y, x),
     }
 }
 
-/// Whether a comparison of 32 bits holds.
+/// Whether a comparison of 32 bits holds; the last one is JSLE.
 #[tactic(auto, unfolding(crate::specs::Words::holds))]
 fn holds_32(code: u8, x: u32, y: u32) -> bool
     ensures { result ≡ holds 32 code x y }
 {
     match code {
-        1 => x == y,
-        2 => x > y,
-        3 => x >= y,
-        4 => x & y != 0,
-        5 => x != y,
-        6 => is_below_32(y, x),
-        7 => !is_below_32(x, y),
-        10 => x < y,
-        11 => x <= y,
-        12 => is_below_32(x, y),
+        JEQ => x == y,
+        JGT => x > y,
+        JGE => x >= y,
+        JSET => x & y != 0,
+        JNE => x != y,
+        JSGT => is_below_32(y, x),
+        JSGE => !is_below_32(x, y),
+        JLT => x < y,
+        JLE => x <= y,
+        JSLT => is_below_32(x, y),
         _ => !is_below_32(y, x),
     }
 }

@@ -6,10 +6,12 @@
 //! Nothing is allocated.
 //!
 //! It stands on `bpf_insn` for the code and on `bpf_mem` for the memory. `specs/Words` has the arithmetic, `specs/Steps` one
-//! instruction, `specs/Running` a run.
+//! instruction, `specs/Running` a run, `specs/Fuel` what stands behind so many instructions.
 #![tactic(auto)]
 
+mod codes;
 mod compute;
+pub mod laws;
 mod running;
 mod step;
 mod words;

@@ -7,6 +7,7 @@ ghost use Rattle.bpf_insn.specs.Loading.{begins};
 ghost use Rattle.bpf_machine.specs.Steps.{reg, operand, computed, address, jumped, size_of, sets, jumps, loads, stores, insn};
 ghost use Rattle.bpf_machine.specs.Does.{Does, machine};
 
+use crate::codes::{CALL, EXIT, JA};
 use crate::compute::{computed, is_taken, loaded, size_of};
 use crate::words::{low_32, offset_word};
 use bpf_insn::forms::{by_register, class, code_of};
@@ -63,10 +64,10 @@ fn jump(insn: Insn, regs: &[u64; 11], place: u64) -> Step
 {
     let offset = offset_word(insn);
     match code_of(insn.opcode) {
-        0 if class(insn.opcode) == 5 => Step::Goes(jumped(place, offset)),
-        0 => Step::Goes(jumped(place, insn.imm)),
-        8 => Step::Asks(low_32(insn.imm)),
-        9 => Step::Ends(regs[0]),
+        JA if class(insn.opcode) == 5 => Step::Goes(jumped(place, offset)),
+        JA => Step::Goes(jumped(place, insn.imm)),
+        CALL => Step::Asks(low_32(insn.imm)),
+        EXIT => Step::Ends(regs[0]),
         _ if is_taken(insn, regs[usize::from(insn.dst)], operand(insn, regs)) => {
             Step::Goes(jumped(place, offset))
         }
@@ -140,8 +141,7 @@ pub(crate) fn take_step(
         1 => load(insn, regs, place, memory),
         2 => store(insn, regs[dst], insn.imm, place, memory),
         3 => store(insn, regs[dst], regs[src], place, memory),
-        4 => arithmetic(insn, regs, place),
-        7 => arithmetic(insn, regs, place),
+        4 | 7 => arithmetic(insn, regs, place),
         _ => jump(insn, regs, place),
     }
 }

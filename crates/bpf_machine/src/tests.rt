@@ -107,3 +107,18 @@ fn helpers_are_asked_and_their_registers_cleared(rt: HostRuntime) -> Result<(), 
     }
     Ok(())
 }
+
+#[test]
+fn more_fuel_changes_no_end_that_came_before(rt: HostRuntime) -> Result<(), Fail> {
+    laws::fuel_decides::<Sums>();
+    let mut code = Vec::from_slice(rt.alloc(), &[0xb7, 0, 0, 0, 7, 0, 0, 0])?;
+    code.extend_from_slice(&EXIT)?;
+    for fuel in [2, 3, u32::MAX] {
+        assert_eq!(rt;
+            ran(rt.alloc(), &code, fuel)?.0,
+            End::Exit(7),
+            "with {fuel}"
+        );
+    }
+    Ok(())
+}

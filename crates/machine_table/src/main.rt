@@ -1,6 +1,6 @@
 //! Runs each row of a table of instructions, by the word FILE, and prints the rows that end otherwise than they say, and how many there are.
 //!
-//! The table has each opcode of the profile with operands at the edges. bench/machine_table/rows.py writes it, from the text
+//! The table has each opcode of the profile with operands at the edges. bench/machine_table/rows.rs writes it, from the text
 //! of RFC 9669 and not from this repository's definitions; its head says what a line is. It stands on `bpf_machine`,
 //! `bpf_mem` and `bpf_insn`, and promises nothing beyond being safe.
 #![tactic(auto)]

@@ -1,4 +1,4 @@
-use Rattle.std.proofs.Common.{◌≡◌, ◌⊎◌, inl, inr, arith}
+use Rattle.std.proofs.Common.{◌≡◌, ◌⊎◌, arith}
 use Rattle.bpf_machine.proofs.Stepping.{does_the_same, at_arithmetic, at_jump, at_wide, at_load, at_store, at_register_store}
 use Rattle.bpf_machine.proofs.step.take_step.Goals as goal
 
@@ -26,14 +26,8 @@ returns-in-3-clause-does c =
 pub returns-in-4-clause-does : goal.returns-in-4-clause-does
 returns-in-4-clause-does c =
     does_the_same _ _ c.arithmetic.result c.args.regs.now c.arithmetic.new.regs c.args.memory.now c.args.memory.now
-    (at_arithmetic c.args.code.now c.args.regs.now c.args.place c.args.memory.now c.at-insn.result c.class.result c.at-insn.ensures.value c.class.ensures (inl c.in-4.is))
+    (at_arithmetic c.args.code.now c.args.regs.now c.args.place c.args.memory.now c.at-insn.result c.class.result c.at-insn.ensures.value c.class.ensures c.in-4.is)
     (c.arithmetic.ensures c.args.memory.now)
-
-pub returns-in-7-clause-does : goal.returns-in-7-clause-does
-returns-in-7-clause-does c =
-    does_the_same _ _ c.arithmetic-in-7.result c.args.regs.now c.arithmetic-in-7.new.regs c.args.memory.now c.args.memory.now
-    (at_arithmetic c.args.code.now c.args.regs.now c.args.place c.args.memory.now c.at-insn.result c.class.result c.at-insn.ensures.value c.class.ensures (inr c.in-7.is))
-    (c.arithmetic-in-7.ensures c.args.memory.now)
 
 pub returns-in_default-clause-does : goal.returns-in_default-clause-does
 returns-in_default-clause-does c =
