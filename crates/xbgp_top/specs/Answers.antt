@@ -31,10 +31,12 @@ use Rattle.xbgp_top.specs.declared.command.Job.{Job}
 use Rattle.xbgp_top.specs.declared.command.Job.TheVariants.{Heard, Judge, Exec}
 use Rattle.xbgp_top.specs.Commands.{Command, on_file, check, command_of}
 
+-- what the program answers
 pub record Answer : Type 0 where
   pub status : Status
   pub text : List ℕ
 
+-- a status with its text
 abbrev pub answered : Status → List ℕ → Answer
 answered status text = record { status = status; text = text }
 
@@ -42,9 +44,11 @@ answered status text = record { status = status; text = text }
 abbrev pub fault_line : List (List ℕ) → List ℕ
 fault_line words = line (codes "fault" ∷ words)
 
+-- the last line of a whole text
 abbrev pub end_line : List ℕ
 end_line = line (codes "end" ∷ [])
 
+-- the words are no command
 abbrev pub usage_answer : Answer
 usage_answer = answered Usage (fault_line (codes "usage" ∷ []))
 
@@ -52,11 +56,13 @@ usage_answer = answered Usage (fault_line (codes "usage" ∷ []))
 abbrev pub input_limit : ℕ
 input_limit = 1048576
 
+-- the word for an input
 abbrev pub file_word : File → List ℕ
 file_word Input = codes "input"
 file_word inputs.Config = codes "config"
 file_word inputs.Manifest = codes "manifest"
 
+-- an input has more octets than its limit
 abbrev pub long_answer : File → Answer
 long_answer file = answered (TooLong file) (fault_line (codes "long" ∷ file_word file ∷ []))
 
@@ -68,6 +74,7 @@ with_input file files name go =
       | Some octets ↦ if nat_lt input_limit (length octets) then long_answer file else go octets
     ]
 
+-- a stream is refused at a place
 abbrev pub bad_stream : ℕ → Answer
 bad_stream at = answered (BadStream at) (fault_line (codes "stream" ∷ decimal at ∷ []))
 
@@ -101,6 +108,7 @@ verdict m =
     ]
     else codes "other" ∷ []
 
+-- a message's place, and what is said of it
 abbrev pub judge_line : Found → List ℕ
 judge_line m = line (decimal m.at ∷ verdict m)
 
@@ -124,11 +132,13 @@ no_help number args memory world = record { called = called.Misuse; memory = mem
 abbrev pub alone : List ℕ → End
 alone code = (bpf no_help code (fresh []) 1000000 false).end
 
+-- the words for how bytecode ends; without helpers it never ends by Next
 abbrev pub end_words : End → List (List ℕ)
 end_words (ends.Exit n) = codes "r0" ∷ decimal n ∷ []
 end_words ends.Next = []
 end_words (ends.Failed cause) = codes "fault" ∷ cause_word cause ∷ []
 
+-- bytecode is refused, with the kind and the slot of its first fault
 abbrev pub bad_code : LoadFault → Answer
 bad_code fault = answered (BadCode fault) (fault_line (codes "code" ∷ load_word fault.kind ∷ decimal fault.slot ∷ []))
 
@@ -156,9 +166,11 @@ counts config manifest =
     answered Done (count_line (codes "peers") (length config.peers) ++ count_line (codes "networks") (length config.networks)
     ++ count_line (codes "maps") (length manifest.maps) ++ count_line (codes "programs") (length manifest.programs) ++ end_line)
 
+-- a configuration is refused, with its first fault
 abbrev pub bad_config : ConfigFault → Answer
 bad_config fault = answered (BadConfig fault) (fault_line (codes "config" ∷ kind_word fault.kind ∷ part_word fault.part ∷ decimal fault.index ∷ []))
 
+-- a manifest is refused, with its first fault
 abbrev pub bad_manifest : ManifestFault → Answer
 bad_manifest fault =
     answered (BadManifest fault) (fault_line (codes "manifest" ∷ kind_word fault.kind ∷ part_word fault.part ∷ decimal fault.index ∷ decimal fault.slot ∷ []))
@@ -183,10 +195,11 @@ with_manifest files name go =
     if bytes_eq name (codes "-") then go no_manifest
     else with_input inputs.Manifest files name (λ text. given_manifest go (manifest text))
 
+-- what a command answers, from the files that are held
 unfoldable pub command_answer : Command → Files → Answer
 command_answer (on_file job name) files = with_input Input files name (job_answer job)
 command_answer (check config manifest) files = with_config files config (λ c. with_manifest files manifest (counts c))
 
--- words that are no command are bad usage
+-- what words answer, from the files that are held; words that are no command are bad usage
 unfoldable pub answer : List (List ℕ) → Files → Answer
 answer words files = elim (command_of words) [ None ↦ usage_answer | Some command ↦ command_answer command files ]

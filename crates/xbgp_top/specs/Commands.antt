@@ -5,6 +5,7 @@ use Rattle.std.specs.Str.{bytes_eq}
 use Rattle.xbgp_top.specs.declared.command.Job.{Job}
 use Rattle.xbgp_top.specs.declared.command.Job.TheVariants.{Heard, Judge, Exec}
 
+-- what words ask for: something about one file, or to check a configuration and a manifest
 pub data Command : Type 0 where
   on_file : Job → List ℕ → Command
   check : List ℕ → List ℕ → Command
@@ -17,6 +18,7 @@ job_of word =
     else if bytes_eq word (codes "exec") then Some Exec
     else None
 
+-- the command that words are
 abbrev pub command_of : List (List ℕ) → Option Command
 command_of (word ∷ name ∷ []) = option_map (λ job. on_file job name) (job_of word)
 command_of (word ∷ config ∷ manifest ∷ []) = if bytes_eq word (codes "check") then Some (check config manifest) else None

@@ -50,7 +50,9 @@ fn inputs_are_refused(rt: HostRuntime) -> Result<(), Fail> {
 
 #[test]
 fn a_sink_that_fails_is_told(rt: HostRuntime) -> Result<(), Fail> {
-    let (status, written) = answer(rt.alloc(), &["heard", "x"], b"", b"", 1)?;
+    let alloc = rt.alloc();
+    let octets = update(alloc, &[8, 10])?;
+    let (status, written) = answer(alloc, &["heard", "x"], &octets, b"", 1)?;
     assert_eq!(rt; status, Status::WriteFault);
     assert!(rt; written.is_empty());
     Ok(())
