@@ -136,3 +136,11 @@ is_low t n b few small =
       | inl high ↦ absurd (omega (arith, few, small, pow_below 32 100 (omega arith), many 100 t b (omega (arith, high))))
       | inr low ↦ low
     ]
+
+-- 65,536 entries stand on at most 33 levels
+pub few_levels : (t : Tree) → IsBalanced t → length (entries_of t) ≤ 65536 → height_of t ≤ 33
+few_levels t b few =
+    elim (cases_lt 33 (height_of t)) [
+      | inl high ↦ absurd (omega (arith, few, many 17 t b (omega (arith, high))))
+      | inr low ↦ low
+    ]
