@@ -1,5 +1,6 @@
 -- Texts that are gathered one after another, and then put.
 use Rattle.std.proofs.Common.{◌≡◌, ℕ, ◌<◌, length, List, [], ◌++◌, Option, Some, None, Result, Ok, Err, sym, ◌∙◌, ap, subst, arith, append_assoc}
+use Rattle.std.specs.Result.{IsErrAnd}
 use Rattle.std.proofs.lemmas.List.{append-nil}
 use Rattle.xb_words.specs.Table.{behind, entry_after, IsRising}
 use Rattle.xb_words.proofs.Tables.{after-some, after-none}
@@ -105,3 +106,9 @@ last_line before now whole page table last is g =
 pub fewer_behind : (table : Sections) (last : Option Prefix) (e : Prefix × List ℕ) → IsRising prefix_cmp table → entry_after prefix_cmp table last ≡ Some e
     → length (behind prefix_cmp table (Some e.0)) < length (behind prefix_cmp table last)
 fewer_behind table last e rising is = omega (arith, ap length (after-some prefix_cmp prefix_cmp_total table last e rising is))
+
+-- a call that hands an error on by `?` ends as that error says
+pub stops_on : (before now : Option (List ℕ)) (page next text : List ℕ) (faults_before faults_now : ℕ) (status : Status) (result : Result (Unit {0}) Status)
+    → IsErrAnd result (λ s. s ≡ status) → Stops before now (page ++ text) faults_before faults_now status → Gathers before now page next text faults_before faults_now result
+stops_on before now page next text faults_before faults_now status (Ok done) wrong stops = absurd wrong
+stops_on before now page next text faults_before faults_now status (Err s) same stops = subst (λ (t : Status). Stops before now (page ++ text) faults_before faults_now t) (sym same) stops

@@ -58,10 +58,7 @@ fn gather_table<K: Sink>(
     let mut last = None;
     'entries: while let Some(entry) = table.after(last) {
         last = Some(entry.0);
-        match gather_entry(alloc, &mut line, entry.0, entry.1, page, sink) {
-            Ok(()) => {}
-            Err(status) => return Err(status),
-        }
+        gather_entry(alloc, &mut line, entry.0, entry.1, page, sink)?;
     }
     Ok(())
 }
@@ -75,10 +72,8 @@ fn gather_answer<K: Sink>(
 ) -> Result<(), Status>
     ensures { Gathers (K.took sink.old) (K.took sink.new) page.old.octets page.new.octets (table_lines table.now ++ end_line) (K.faults sink.old) (K.faults sink.new) result }
 {
-    match gather_table(alloc, table, page, sink) {
-        Ok(()) => gather_text(page, b"end\n", sink),
-        Err(status) => Err(status),
-    }
+    gather_table(alloc, table, page, sink)?;
+    gather_text(page, b"end\n", sink)
 }
 
 // Writes a table, a line for each prefix, and the end.

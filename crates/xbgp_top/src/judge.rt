@@ -108,10 +108,7 @@ fn gather_verdicts<K: Sink>(
         let Ok(message) = next else {
             return Ok(());
         };
-        match gather_verdict(alloc, &mut line, &message, page, sink) {
-            Ok(()) => {}
-            Err(status) => return Err(status),
-        }
+        gather_verdict(alloc, &mut line, &message, page, sink)?;
     }
     Ok(())
 }
@@ -125,10 +122,8 @@ fn gather_answer<K: Sink>(
 ) -> Result<(), Status>
     ensures { Gathers (K.took sink.old) (K.took sink.new) page.old.octets page.new.octets (flat_map judge_line (messages_of octets.now) ++ end_line) (K.faults sink.old) (K.faults sink.new) result }
 {
-    match gather_verdicts(alloc, octets, page, sink) {
-        Ok(()) => gather_text(page, b"end\n", sink),
-        Err(status) => Err(status),
-    }
+    gather_verdicts(alloc, octets, page, sink)?;
+    gather_text(page, b"end\n", sink)
 }
 
 // Writes the verdicts, a line for each message, and the end.

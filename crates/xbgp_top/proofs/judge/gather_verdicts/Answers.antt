@@ -1,6 +1,8 @@
-use Rattle.std.proofs.Common.{rules, ◌≡◌, ◌∷◌, Ok, refl, ◌∙◌}
+use Rattle.std.proofs.Common.{rules, ◌≡◌, ◌∷◌, Ok, refl, ◌∙◌, flat_map}
+use Rattle.xbgp_top.specs.Answers.{judge_line, messages_of}
 use Rattle.xbgp_top.specs.Met.{met}
 use Rattle.xbgp_top.proofs.JudgeLemmas.{all_to_come, verdict_done, verdict_stops}
+use Rattle.xbgp_top.proofs.OutputLemmas.{stops_on}
 use Rattle.xbgp_top.proofs.judge.gather_verdicts.Goals as goal
 
 pub messages-init : goal.messages-init
@@ -10,11 +12,12 @@ pub messages-preserved : goal.messages-preserved
 messages-preserved g c =
     let item : c.messages.messages ≡ Ok (met c.in-Ok-next.message) ∷ c.next.new.self = search rules in
     record {
-      gathered = verdict_done _ _ _ _ _ _ c.messages.messages c.next.new.self (met c.in-Ok-next.message) item c.messages.invariant.gathered c.in-Ok-gather_verdict.ensures.0;
-      quiet = c.in-Ok-gather_verdict.ensures.1 ∙ c.messages.invariant.quiet;
+      gathered = verdict_done _ _ _ _ _ _ c.messages.messages c.next.new.self (met c.in-Ok-next.message) item c.messages.invariant.gathered c.in_ok-gather_verdict.ensures.0;
+      quiet = c.in_ok-gather_verdict.ensures.1 ∙ c.messages.invariant.quiet;
     }
 
-pub returns-in-Err : goal.returns-in-Err
-returns-in-Err g c =
+pub returns-in_err-gather_verdict : goal.returns-in_err-gather_verdict
+returns-in_err-gather_verdict g c =
     let item : c.messages.messages ≡ Ok (met c.in-Ok-next.message) ∷ c.next.new.self = search rules in
-    verdict_stops _ _ _ _ _ c.messages.messages c.next.new.self (met c.in-Ok-next.message) _ _ _ c.in-Err.status item c.messages.invariant.gathered c.messages.invariant.quiet c.in-Err.ensures
+    stops_on _ _ c.args.page.now.octets c.gather_verdict.new.page.octets (flat_map judge_line (messages_of c.args.octets.now)) _ _ c.in_err-gather_verdict.field-0.0 c.from_residual.result c.from_residual.ensures.1
+    (verdict_stops _ _ _ _ _ c.messages.messages c.next.new.self (met c.in-Ok-next.message) _ _ _ c.in_err-gather_verdict.field-0.0 item c.messages.invariant.gathered c.messages.invariant.quiet c.in_err-gather_verdict.ensures)
