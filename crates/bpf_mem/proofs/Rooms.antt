@@ -1,5 +1,5 @@
 -- Stack and heap as the octets that they share.
-use Rattle.std.proofs.Common.{◌≡◌, refl, sym, ap, ◌∙◌, subst, ℕ, zero, suc, ◌<◌, get_or, ◌+◌, ◌-◌, ◌≤◌, true, false, List, [], ◌∷◌, length, take, drop, replicate, Option, Some, None, IsSome, unwrap_or, option_map, arith, inl, inr}
+use Rattle.std.proofs.Common.{◌≡◌, refl, sym, ap, ◌∙◌, subst, ℕ, zero, suc, ◌<◌, get_or, ◌+◌, ◌-◌, ◌≤◌, true, false, List, [], ◌∷◌, length, take, drop, replicate, Option, Some, None, is_some, IsSome, unwrap_or, option_map, arith, inl, inr}
 use Rattle.std.specs.Prelude.{◌==◌}
 use Rattle.std.specs.Int.{bytes_low_first}
 use Rattle.std.proofs.lemmas.Bool.{cases_Bool, eqb-true, eq-eqb}
@@ -210,3 +210,17 @@ pub lent-stored : (m : Memory) (addr n value : ℕ) (before after : List ℕ) �
 lent-stored m addr n value before after there len e =
     let octets : after ≡ bytes_low_first 0 n value = e ∙ ap (λ k. bytes_low_first 0 k value) len in
     rw octets (lent-written m addr n (bytes_low_first 0 n value) (length-bytes_low_first 0 n value) (rw there refl))
+
+-- whether a range may be written is the same of every memory
+pub writable-there : (m : Memory) (addr n : ℕ) → is_some (writable_at m addr n) ≡ is_some (writable_place addr n)
+writable-there m addr n =
+    elim (cases_Bool (n == 0)) [
+      | inl z ↦ rw z refl
+      | inr z ↦ elim (cases_Bool (is_within stack_base 512 addr n)) [
+        | inl s ↦ rw (z, s) refl
+        | inr s ↦ elim (cases_Bool (is_within heap_base 8192 addr n)) [
+          | inl t ↦ rw (z, s, t) refl
+          | inr t ↦ rw (z, s, t) refl
+        ]
+      ]
+    ]

@@ -1,6 +1,6 @@
 -- What room and memory end as, where a part of them is lent for writing.
-use Rattle.std.specs.Prelude.{ℕ, List, []}
-use Rattle.std.specs.Borrow.{Lends, MutBor, Fml, Array, u8}
+use Rattle.std.specs.Prelude.{ℕ, List, [], Option}
+use Rattle.std.specs.Borrow.{Lends, LendsIf, MutBor, Fml, Array, u8}
 use mir.Syntax.{named}
 use Rattle.bpf_mem.specs.Memory.{Memory}
 use Rattle.bpf_mem.specs.Places.{overwritten, lent}
@@ -15,3 +15,8 @@ LendsPart room at part = Lends room_row (Array u8 0) room part (overwritten room
 abbrev pub LendsRange : MutBor Memory → ℕ → ℕ → MutBor (List ℕ) → Fml
 LendsRange memory addr len range =
     Lends (memory_row (record { mir = named 1; lft = [] })) (Array u8 0) memory range (lent memory.now addr len)
+
+-- the same where the range may be absent, and memory then stays
+abbrev pub LendsRangeIf : MutBor Memory → ℕ → ℕ → Option (MutBor (List ℕ)) → Fml
+LendsRangeIf memory addr len range =
+    LendsIf (memory_row (record { mir = named 1; lft = [] })) (Array u8 0) memory range (lent memory.now addr len) memory.now

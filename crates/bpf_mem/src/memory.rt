@@ -6,7 +6,7 @@ ghost use Rattle.xb_words.specs.Octets.{AreOctets};
 ghost use Rattle.bpf_mem.specs.Memory.{fresh, octets_at, writable_at, IsMemory, IsSize};
 
 use crate::numbers::{number_of, write_number};
-use crate::places::{WINDOW_BASE, place_in, writable_place};
+use crate::places::{WINDOW_BASE, is_place, place_in, writable_place};
 use crate::room::Room;
 use std::marker::Model;
 
@@ -39,7 +39,7 @@ fn count(octets: &[u8]) -> u64
 
 impl<'a> Memory<'a> {
     ghost use Rattle.bpf_mem.specs.Memory.{load, store};
-    ghost use Rattle.bpf_mem.specs.Lending.{LendsRange};
+    ghost use Rattle.bpf_mem.specs.Lending.{LendsRange, LendsRangeIf};
 
     /// Memory over some room and a window. The stack and the heap begin as zeros.
     pub fn over(room: &'a mut Room, window: &'a [u8]) -> Memory<'a>
@@ -76,7 +76,7 @@ impl<'a> Memory<'a> {
     pub fn is_writable(&self, addr: u64, len: u64) -> bool
         ensures { result ≡ is_some (writable_at self.now addr len) }
     {
-        writable_place(addr, len).is_some()
+        is_place(addr, len)
     }
 
     /// The octets of a range that may be written.
@@ -92,15 +92,15 @@ impl<'a> Memory<'a> {
 
     /// The octets of a range to be written, where they all stand in the stack or all in the heap.
     ///
-    /// What memory is once they were written is said by `octets_mut`, which this call hands on.
+    /// Once they were written, memory is as after a write of them; where they are absent, it stays.
     pub fn range_mut(&mut self, addr: u64, len: u64) -> Option<&mut [u8]>
-        ensures { option_map (λ s. s.now) result ≡ writable_at self.old addr len }
+        ensures* writes_back { sem 𝓛 (LendsRangeIf self.entry addr len result) }
+        ensures value { option_map (λ s. s.now) result ≡ writable_at self.old addr len }
     {
-        if self.is_writable(addr, len) {
-            Some(self.octets_mut(addr, len))
-        } else {
-            None
+        if is_place(addr, len) {
+            return Some(self.octets_mut(addr, len));
         }
+        None
     }
 
     /// The number that stands in a range of one, two, four or eight octets.

@@ -1,5 +1,5 @@
 // Where a range of addresses stands.
-ghost use Rattle.std.specs.Prelude.{◌≡◌, ◌≤◌, ◌^◌, ◌+◌};
+ghost use Rattle.std.specs.Prelude.{◌≡◌, ◌≤◌, ◌^◌, ◌+◌, is_some};
 ghost use Rattle.bpf_mem.specs.Places.{place_in, writable_place};
 
 pub(crate) const STACK_BASE: u64 = 0x1000_0000;
@@ -35,4 +35,11 @@ pub(crate) fn writable_place(addr: u64, len: u64) -> Option<usize>
         return Some(at);
     }
     place_in(HEAP_BASE, HEAP_SIZE, addr, len).map(|at| STACK_SIZE + at)
+}
+
+/// Whether a range stands where it may be written.
+pub(crate) fn is_place(addr: u64, len: u64) -> bool
+    ensures { result ≡ is_some (writable_place addr len) }
+{
+    writable_place(addr, len).is_some()
 }
