@@ -7,8 +7,8 @@ use Rattle.std.proofs.lemmas.Bool.Decides.{nat_tests}
 use Rattle.std.specs.List.{list_any}
 use Rattle.xb_words.specs.Cut.{cut, walk, walk_from}
 use Rattle.xb_words.specs.Optional.{or_else}
-use Rattle.xb_base.specs.Messages.{Notification}
-use Rattle.xb_base.specs.Prefixes.{Prefix, prefix_at, prefix_size, are_prefixes}
+use Rattle.xb_wire.specs.Messages.{Notification}
+use Rattle.xb_values.specs.Prefixes.{Prefix, prefix_at, prefix_size, are_prefixes}
 use Rattle.bgp_attr.specs.declared.attrs.Overrun.{Overrun}
 use Rattle.bgp_attr.specs.Attributes.{attribute_size, attributes, code_of, codes_of}
 use Rattle.bgp_attr.specs.Rules.{attr_fault}

@@ -2,8 +2,8 @@
 use Rattle.std.specs.Prelude.{ℕ, Bool, true, false, List, [], ◌∷◌, length, map, find, Option, Some, None, option_map, is_none, ◌==◌, ◌||◌, not, if◌then◌else◌}
 use Rattle.std.specs.List.{list_any}
 use Rattle.xb_words.specs.Optional.{or_else}
-use Rattle.xb_base.specs.Messages.{Notification, notification, Update, lengths_fit, update_parts}
-use Rattle.xb_base.specs.Prefixes.{are_prefixes}
+use Rattle.xb_wire.specs.Messages.{Notification, notification, Update, lengths_fit, update_parts}
+use Rattle.xb_values.specs.Prefixes.{are_prefixes}
 use Rattle.bgp_attr.specs.declared.rule.AttrFault.{AttrFault}
 use Rattle.bgp_attr.specs.declared.rule.AttrFault.TheVariants.{Unrecognized, Flags, Length, Origin, NextHop, Path}
 use Rattle.bgp_attr.specs.Attributes.{attributes, is_whole, flags_of, code_of, codes_of, value_of}

@@ -1,11 +1,11 @@
 // What a NOTIFICATION says about an UPDATE (RFC 4271, sections 4.5 and 6.3).
 ghost use Rattle.std.specs.Prelude.{◌≡◌, []};
-ghost use Rattle.xb_base.specs.Messages.{notification};
-ghost use Rattle.xb_base.specs.Notices.{said};
+ghost use Rattle.xb_wire.specs.Messages.{notification};
+ghost use Rattle.xb_wire.specs.Notices.{said};
 ghost use Rattle.bgp_check.specs.Judgement.{attr_notice, missing_notice};
 
 use bgp_attr::AttrFault;
-use xb_base::Notice;
+use xb_wire::Notice;
 
 const UPDATE_MESSAGE_ERROR: u8 = 3;
 

@@ -1,6 +1,6 @@
 // The checks of a section of path attributes.
 ghost use Rattle.std.specs.Prelude.{◌≡◌, ℕ, ◌<◌, [], ◌∷◌, map, find, is_none, not, option_map, IfSome};
-ghost use Rattle.xb_base.specs.Notices.{said};
+ghost use Rattle.xb_wire.specs.Notices.{said};
 ghost use Rattle.bgp_attr.specs.Attributes.{attributes, codes_of};
 ghost use Rattle.bgp_attr.specs.Rules.{attr_fault};
 ghost use Rattle.bgp_check.specs.Codes.{holds};
@@ -9,7 +9,7 @@ ghost use Rattle.bgp_check.specs.Judgement.{attr_notice, attribute_check, first_
 use crate::codes::Codes;
 use crate::notices;
 use bgp_attr::{Attr, Attrs, attr_rule};
-use xb_base::Notice;
+use xb_wire::Notice;
 
 const ORIGIN: u8 = 1;
 

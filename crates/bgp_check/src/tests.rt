@@ -1,7 +1,7 @@
 use crate::{check_section, check_update};
 use std::alloc::{AllocError, Global};
 use std::test::Fail;
-use xb_base::Notice;
+use xb_wire::Notice;
 
 // In each row an attribute in hexadecimal, and the subcode of its fault, or 0.
 const ATTRIBUTES: &str = "40010100 0

@@ -1,15 +1,15 @@
 // The checks of the body of an UPDATE.
 ghost use Rattle.std.specs.Prelude.{◌≡◌, Some, None, IfOk, IfErr};
-ghost use Rattle.xb_base.specs.Messages.{update_of};
-ghost use Rattle.xb_base.specs.Notices.{said};
-ghost use Rattle.xb_base.specs.Prefixes.{are_prefixes as are_prefixes_of};
+ghost use Rattle.xb_wire.specs.Messages.{update_of};
+ghost use Rattle.xb_wire.specs.Notices.{said};
+ghost use Rattle.xb_values.specs.Prefixes.{are_prefixes as are_prefixes_of};
 ghost use Rattle.bgp_update.specs.Joins.{Joins};
 ghost use Rattle.bgp_check.specs.Judgement.{judge};
 
 use crate::notices;
 use crate::section::check_section;
 use bgp_update::{Prefixes, UpdateView};
-use xb_base::Notice;
+use xb_wire::Notice;
 
 // Whether octets are whole prefixes to the end.
 #[tactic(auto, using(crate::proofs::Steps::all_whole_prefixes))]

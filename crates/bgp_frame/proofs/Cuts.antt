@@ -5,10 +5,10 @@ use Rattle.std.specs.List.{concat}
 use Rattle.std.proofs.lemmas.List.{append_assoc, append-nil}
 use Rattle.xb_words.specs.Cut.{Pieces, after_item, cut, cut_turns}
 use Rattle.xb_words.proofs.Cutting.{opened, cut-append, cut-some, cut-none}
-use Rattle.xb_base.specs.Messages.{Notification, message_size, header_fault, front_fault, length_of, split, stream_fault}
-use Rattle.xb_base.proofs.Streams.{message_is_size, message_is_stable}
+use Rattle.xb_wire.specs.Messages.{Notification, message_size, header_fault, front_fault, length_of, split, stream_fault}
+use Rattle.xb_wire.proofs.Streams.{message_is_size, message_is_stable}
 use Rattle.bgp_frame.specs.Pieces.{Taken, drained_in, drained, fed_piece, fed}
-use Rattle.xb_base.specs.Headers.{notification_of}
+use Rattle.xb_wire.specs.Headers.{notification_of}
 use Rattle.bgp_frame.specs.Fronts.{IsNext, IsFirst}
 use Rattle.bgp_frame.specs.declared.frames.Next.{Next}
 use Rattle.bgp_frame.specs.declared.frames.Next.TheVariants.{Whole, More, Fault}

@@ -4,8 +4,8 @@ use Rattle.std.proofs.lemmas.Bool.{ltb-false}
 use Rattle.std.proofs.lemmas.List.{length-drop, drop-drop, drop-take}
 use Rattle.std.specs.Prelude.{◌||◌, ◌==◌, not, slice_range}
 use Rattle.xb_words.specs.Octets.{all_are}
-use Rattle.xb_base.specs.Messages.{Notification, notification, message_size, header_fault, length_of, kind_of, is_bad_length, body_of}
-use Rattle.xb_base.proofs.Streams.{passed, message_is_size}
+use Rattle.xb_wire.specs.Messages.{Notification, notification, message_size, header_fault, length_of, kind_of, is_bad_length, body_of}
+use Rattle.xb_wire.proofs.Streams.{passed, message_is_size}
 use Rattle.bgp_frame.specs.Waiting.{Waiting, IsKept}
 
 later_test : (a b b' c d : Bool) (x y z w : Notification) → cond a (Some x) (cond (b || b') (Some y) (cond c (Some z) (cond d (Some w) None))) ≡ None → (b ≡ false) × (b' ≡ false)

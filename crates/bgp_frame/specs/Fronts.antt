@@ -1,8 +1,8 @@
 -- What stands at the front of octets that wait (RFC 4271, 4.1 and 6.1).
 use Rattle.std.specs.Prelude.{◌≡◌, ℕ, List, [], take, drop, Some, None}
 use Rattle.xb_words.specs.Cut.{after_item}
-use Rattle.xb_base.specs.Messages.{message_size, front_fault, kind_of, body_of, split, stream_fault}
-use Rattle.xb_base.specs.Headers.{notification_of}
+use Rattle.xb_wire.specs.Messages.{message_size, front_fault, kind_of, body_of, split, stream_fault}
+use Rattle.xb_wire.specs.Headers.{notification_of}
 use Rattle.bgp_frame.specs.Waiting.{Waiting}
 use Rattle.bgp_frame.specs.declared.frames.Next.{Next}
 use Rattle.bgp_frame.specs.declared.frames.Next.TheVariants.{Whole, More, Fault}

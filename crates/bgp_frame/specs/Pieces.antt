@@ -1,6 +1,6 @@
 -- A stream that comes in pieces (RFC 4271, 4.1).
 use Rattle.std.specs.Prelude.{ℕ, zero, suc, List, [], ◌∷◌, ◌++◌, length, take, drop, fold, Some, None}
-use Rattle.xb_base.specs.Messages.{message_size}
+use Rattle.xb_wire.specs.Messages.{message_size}
 
 -- the messages that were taken off, and what waits
 pub record Taken : Type 0 where

@@ -1,11 +1,11 @@
 ghost use Rattle.std.specs.Prelude.{◌≡◌, ◌↔◌, ◌<◌, ◌≤◌, ◌+◌, ◌-◌, ◌++◌, [], length, take, drop, min, Some, IfOk, vec_capacity};
-ghost use Rattle.xb_base.specs.Messages.{message_size, body_of};
+ghost use Rattle.xb_wire.specs.Messages.{message_size, body_of};
 ghost use Rattle.bgp_frame.specs.Waiting.{Waiting};
 ghost use Rattle.bgp_frame.specs.Fronts.{IsNext, after_next};
 
 use std::alloc::{AllocError, Global};
 use std::marker::Model;
-use xb_base::{HeaderFault, fault_in_header};
+use xb_wire::{HeaderFault, fault_in_header};
 use xb_words::u16_at;
 
 // Octets of a header: a marker of 16, a length of 2, a type.

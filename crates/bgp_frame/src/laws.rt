@@ -1,7 +1,7 @@
 //! Laws of the definitions. Each is the contract of a function that does nothing.
 ghost use Rattle.std.specs.Prelude.{◌≡◌, ℕ, List};
 ghost use Rattle.std.specs.List.{concat};
-ghost use Rattle.xb_base.specs.Messages.{split};
+ghost use Rattle.xb_wire.specs.Messages.{split};
 ghost use Rattle.bgp_frame.specs.Fronts.{IsNext, IsFirst};
 ghost use Rattle.bgp_frame.specs.Pieces.{fed};
 ghost use Rattle.bgp_frame.specs.declared.frames.Next.{Next as Answer};

@@ -9,7 +9,7 @@ mod frames;
 pub mod laws;
 
 pub use frames::{Frames, Next};
-pub use xb_base::HeaderFault;
+pub use xb_wire::HeaderFault;
 
 #[cfg(test)]
 mod tests;

@@ -6,7 +6,7 @@ use Rattle.std.specs.Prelude.{slice_index, ◌==◌, if◌then◌else◌}
 use Rattle.xb_words.specs.Cut.{Pieces, after_item, cut, IsSize}
 use Rattle.xb_words.specs.Optional.{or_else}
 use Rattle.xb_words.proofs.Cutting.{cut-some, cut-none}
-use Rattle.xb_base.specs.Messages.{Notification, notification}
+use Rattle.xb_wire.specs.Messages.{Notification, notification}
 use Rattle.bgp_open.specs.Opens.{field_size, front_field, fills, first_fault, parameter_fault, parameters_fault}
 
 pub field_is_size : IsSize field_size

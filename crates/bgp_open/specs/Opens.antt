@@ -4,7 +4,7 @@ use Rattle.std.specs.Prelude.{ℕ, ◌+◌, Bool, List, [], ◌∷◌, length, t
 use Rattle.xb_words.specs.Octets.{two_at, four_at, two_octets}
 use Rattle.xb_words.specs.Cut.{cut}
 use Rattle.xb_words.specs.Optional.{or_else}
-use Rattle.xb_base.specs.Messages.{Notification, notification}
+use Rattle.xb_wire.specs.Messages.{Notification, notification}
 use Rattle.bgp_open.specs.declared.OpenSeen.{OpenSeen}
 
 -- a parameter or a capability: a type, a length, and that many octets

@@ -7,11 +7,11 @@
 
 ghost use Rattle.std.specs.Prelude.{◌≡◌, ◌≤◌, [], length, IfOk, IfErr, Some, None};
 ghost use Rattle.std.specs.Option.{option_map};
-ghost use Rattle.xb_base.specs.Messages.{notification};
-ghost use Rattle.xb_base.specs.Notices.{said};
+ghost use Rattle.xb_wire.specs.Messages.{notification};
+ghost use Rattle.xb_wire.specs.Notices.{said};
 ghost use Rattle.bgp_open.specs.Opens.{front_field, fills, parameter_fault, parameters_fault, fixed_fault, judge_open, seen};
 
-use xb_base::Notice;
+use xb_wire::Notice;
 use xb_words::{u16_at, u32_at};
 
 /// What an OPEN must match: the AS number of the peer.

@@ -1,6 +1,6 @@
 use crate::{OpenSeen, OpenWant, read_open};
 use std::test::Fail;
-use xb_base::Notice;
+use xb_wire::Notice;
 
 const PEER: OpenWant = OpenWant { peer_as: 65001 };
 

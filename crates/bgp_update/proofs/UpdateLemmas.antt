@@ -3,7 +3,7 @@ use Rattle.std.proofs.Common.{◌≡◌, ℕ, ◌+◌, ◌≤◌, List, ◌++◌
 use Rattle.std.specs.Prelude.{slice_range}
 use Rattle.xb_words.specs.Octets.{two_at}
 use Rattle.xb_words.proofs.Ranges.{range_in_place, length-range}
-use Rattle.xb_base.specs.Messages.{Update}
+use Rattle.xb_wire.specs.Messages.{Update}
 use Rattle.bgp_update.specs.Joins.{Joins}
 
 some_is : (u v : Update) → Some u ≡ Some v → u ≡ v

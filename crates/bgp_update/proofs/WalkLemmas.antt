@@ -1,10 +1,10 @@
 -- What is next in a walk over messages, and over prefixes.
 use Rattle.std.proofs.Common.{◌≡◌, ap, ◌∙◌, ℕ, ◌+◌, ◌<◌, List, [], ◌∷◌, length, take, drop, Some, None, Ok, Err}
 use Rattle.xb_words.proofs.Walking.{walk-some, walk-error, walk-nil, walk_from-anywhere}
-use Rattle.xb_base.specs.Messages.{message_size}
-use Rattle.xb_base.specs.Prefixes.{prefix_size, prefix_at}
-use Rattle.xb_base.proofs.Streams.{message_is_size}
-use Rattle.xb_base.proofs.PrefixLemmas.{prefix_is_size}
+use Rattle.xb_wire.specs.Messages.{message_size}
+use Rattle.xb_values.specs.Prefixes.{prefix_size, prefix_at}
+use Rattle.xb_wire.proofs.Streams.{message_is_size}
+use Rattle.xb_values.proofs.PrefixLemmas.{prefix_is_size}
 use Rattle.bgp_update.specs.Walks.{found, messages_from, prefixes_from}
 
 pub messages_some : (at : ℕ) (s : List ℕ) (n : ℕ) → message_size s ≡ Some n → messages_from at s ≡ Ok (found at (take n s)) ∷ messages_from (at + n) (drop n s)

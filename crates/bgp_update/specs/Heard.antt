@@ -3,8 +3,8 @@ use Rattle.std.specs.Prelude.{ℕ, Bool, List, [], length, Option, Some, None, R
 use Rattle.std.specs.List.{concat}
 use Rattle.xb_words.specs.Cut.{placed}
 use Rattle.xb_words.specs.Table.{with_value, without}
-use Rattle.xb_base.specs.Prefixes.{Sections, prefix_cmp, prefixes, are_prefixes}
-use Rattle.xb_base.specs.Messages.{Update, split, kind_of, body_of, lengths_fit, update_parts}
+use Rattle.xb_values.specs.Prefixes.{Sections, prefix_cmp, prefixes, are_prefixes}
+use Rattle.xb_wire.specs.Messages.{Update, split, kind_of, body_of, lengths_fit, update_parts}
 
 -- without the prefixes of these octets
 abbrev pub withdrawn_from : Sections → List ℕ → Sections

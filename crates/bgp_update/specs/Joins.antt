@@ -1,7 +1,7 @@
 -- How the parts of an UPDATE lie in its body (RFC 4271, section 4.3).
 use Rattle.std.specs.Prelude.{◌≡◌, ℕ, ◌+◌, List, ◌++◌, length, take, slice_range}
 use Rattle.xb_words.specs.Octets.{two_at}
-use Rattle.xb_base.specs.Messages.{Update}
+use Rattle.xb_wire.specs.Messages.{Update}
 
 -- each length field has the length of the part behind it, and fields and parts join to the body
 pub record Joins (body : List ℕ) (u : Update) : Type 0 where

@@ -3,7 +3,7 @@ use Rattle.std.specs.Prelude.{ℕ, Result, Ok, Err}
 use Rattle.bgp_update.specs.declared.messages.Msg.{Msg}
 use Rattle.bgp_update.specs.declared.prefixes.BadPrefix.{BadPrefix}
 use Rattle.bgp_update.specs.Walks.{Found}
-use Rattle.xb_base.specs.Prefixes.{Prefix}
+use Rattle.xb_values.specs.Prefixes.{Prefix}
 
 abbrev pub found_of : Result Msg ℕ → Result Found ℕ
 found_of (Ok m) = Ok (record { at = m.at; kind = m.kind; body = m.body.now })

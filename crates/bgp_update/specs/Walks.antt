@@ -1,8 +1,8 @@
 -- What the walkers give: what is to come, in order, with an error at its end where octets are left that are no item.
 use Rattle.std.specs.Prelude.{ℕ, List, Result}
 use Rattle.xb_words.specs.Cut.{walk_from}
-use Rattle.xb_base.specs.Prefixes.{Prefix, prefix_at, prefix_size}
-use Rattle.xb_base.specs.Messages.{message_size, kind_of, body_of}
+use Rattle.xb_values.specs.Prefixes.{Prefix, prefix_at, prefix_size}
+use Rattle.xb_wire.specs.Messages.{message_size, kind_of, body_of}
 
 -- a message with the place at which it begins
 pub record Found : Type 0 where

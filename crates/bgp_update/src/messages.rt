@@ -1,10 +1,10 @@
 ghost use Rattle.std.specs.Prelude.{◌≡◌, [], ◌∷◌, IfSome, IfNone};
-ghost use Rattle.xb_base.specs.Messages.{message_size};
+ghost use Rattle.xb_wire.specs.Messages.{message_size};
 ghost use Rattle.bgp_update.specs.Walks.{messages_from};
 ghost use Rattle.bgp_update.specs.Msgs.{found_of};
 
 use std::marker::Model;
-use xb_base::fault_in_header;
+use xb_wire::fault_in_header;
 use xb_words::u16_at;
 
 const HEADER: usize = 19;
@@ -58,7 +58,7 @@ impl<'a> Messages<'a> {
     }
 
     /// The next message, or the offset of a header fault or of a rest that is no whole message, after which nothing comes.
-    #[tactic(auto, using(xb_base::proofs::Streams::message_is_size, crate::proofs::WalkLemmas::messages_some, crate::proofs::WalkLemmas::messages_error, crate::proofs::WalkLemmas::messages_nil))]
+    #[tactic(auto, using(xb_wire::proofs::Streams::message_is_size, crate::proofs::WalkLemmas::messages_some, crate::proofs::WalkLemmas::messages_error, crate::proofs::WalkLemmas::messages_nil))]
     pub fn next(&mut self) -> Option<Result<Msg<'a>, usize>>
         ensures item { IfSome result (λ r. self.old ≡ found_of r ∷ self.new) }
         ensures end { IfNone result ((self.old ≡ []) × (self.new ≡ [])) }

@@ -1,11 +1,11 @@
 ghost use Rattle.std.specs.Prelude.{◌≡◌, ◌≤◌, length, Some, [], ◌∷◌, IfSome, IfNone};
 ghost use Rattle.xb_words.specs.Octets.{four_at};
-ghost use Rattle.xb_base.specs.Prefixes.{prefix_at, prefix_size};
+ghost use Rattle.xb_values.specs.Prefixes.{prefix_at, prefix_size};
 ghost use Rattle.bgp_update.specs.Msgs.{prefix_of_result};
 ghost use Rattle.bgp_update.specs.Walks.{prefixes_from};
 
 use std::marker::Model;
-use xb_base::Prefix;
+use xb_values::Prefix;
 use xb_words::u32_at;
 
 /// A length over 32, or too few octets for it.
@@ -20,7 +20,7 @@ pub struct Prefixes<'a> {
 
 impl<'a> Model for Prefixes<'a> {
     ghost use Rattle.std.specs.Prelude.{List, Result};
-    ghost use Rattle.xb_base.specs.Prefixes.{Prefix};
+    ghost use Rattle.xb_values.specs.Prefixes.{Prefix};
     ghost use Rattle.bgp_update.specs.Walks.{prefixes_from};
 
     ghost Value = { List (Result Prefix (Unit {0})) };
@@ -64,7 +64,7 @@ impl<'a> Prefixes<'a> {
     }
 
     /// The next prefix, with its host bits cleared. Nothing comes after a bad one.
-    #[tactic(auto, using(xb_base::proofs::PrefixLemmas::prefix_is_size, crate::proofs::WalkLemmas::prefixes_some, crate::proofs::WalkLemmas::prefixes_error, crate::proofs::WalkLemmas::prefixes_nil))]
+    #[tactic(auto, using(xb_values::proofs::PrefixLemmas::prefix_is_size, crate::proofs::WalkLemmas::prefixes_some, crate::proofs::WalkLemmas::prefixes_error, crate::proofs::WalkLemmas::prefixes_nil))]
     pub fn next(&mut self) -> Option<Result<Prefix, BadPrefix>>
         ensures item { IfSome result (λ r. self.old ≡ prefix_of_result r ∷ self.new) }
         ensures end { IfNone result ((self.old ≡ []) × (self.new ≡ [])) }

@@ -1,5 +1,5 @@
 ghost use Rattle.std.specs.Prelude.{◌≡◌, IfSome};
-ghost use Rattle.xb_base.specs.Messages.{update_of};
+ghost use Rattle.xb_wire.specs.Messages.{update_of};
 ghost use Rattle.bgp_update.specs.Joins.{Joins};
 
 use std::marker::Model;
@@ -14,7 +14,7 @@ pub struct UpdateView<'a> {
 }
 
 impl<'a> Model for UpdateView<'a> {
-    ghost use Rattle.xb_base.specs.Messages.{Update};
+    ghost use Rattle.xb_wire.specs.Messages.{Update};
 
     ghost Value = { Update };
 

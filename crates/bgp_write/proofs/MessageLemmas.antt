@@ -5,8 +5,8 @@ use Rattle.std.proofs.lemmas.Bool.{le-ltb}
 use Rattle.std.proofs.lemmas.List.{length-append}
 use Rattle.std.proofs.lemmas.Nat.{from_be_bytes-to_be_bytes_2}
 use Rattle.xb_words.specs.Octets.{two_octets}
-use Rattle.xb_base.specs.Messages.{Update, Notification, message, update_body, update_message, header_fault, length_of, is_bad_length, IsMessage}
-use Rattle.xb_base.proofs.Streams.{passes}
+use Rattle.xb_wire.specs.Messages.{Update, Notification, message, update_body, update_message, header_fault, length_of, is_bad_length, IsMessage}
+use Rattle.xb_wire.proofs.Streams.{passes}
 
 no_fault : (a b c : Bool) (x y : Option Notification) → a ≡ false → b ≡ false → c ≡ false → cond {A = Option Notification} (a || b) x (cond {A = Option Notification} c y None) ≡ None
 no_fault true b c x y e f g = cc

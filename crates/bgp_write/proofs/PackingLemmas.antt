@@ -3,9 +3,9 @@ use Rattle.std.proofs.Common.{◌≡◌, refl, sym, ap, ◌∙◌, ℕ, ◌+◌,
 use Rattle.std.specs.Prelude.{slice_index, slice_range, replicate}
 use Rattle.std.proofs.lemmas.List.{length-append, append_assoc, append-nil, take_at, drop_at}
 use Rattle.xb_words.specs.Octets.{two_octets}
-use Rattle.xb_base.specs.Buffers.{Buffer}
+use Rattle.xb_values.specs.Buffers.{Buffer}
 use Rattle.bgp_write.specs.Written.{Replaces}
-use Rattle.xb_base.specs.Messages.{IsMessage}
+use Rattle.xb_wire.specs.Messages.{IsMessage}
 use Rattle.bgp_write.proofs.MessageLemmas.{update_whole, is_message_along}
 use Rattle.bgp_write.specs.Packings.{packed, sealed, IsPacking, packing_in, packed_message, front_in, section_in, prefixes_in, tail_of, header_with, sized}
 

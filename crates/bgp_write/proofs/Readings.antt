@@ -10,12 +10,12 @@ use Rattle.std.proofs.Math.Nat.{mul-div_cancel, mul-mod_left, mul_assoc, div-one
 use Rattle.xb_words.specs.Octets.{two_at, two_octets, four_at, four_octets}
 use Rattle.xb_words.specs.Cut.{cut, IsStable, IsItem, Pieces}
 use Rattle.xb_words.proofs.Cutting.{cut-joined}
-use Rattle.xb_base.specs.Messages.{Update, update_body, update_of, split, message_size, IsMessage}
-use Rattle.xb_base.proofs.Streams.{message_is_size, message_is_stable}
+use Rattle.xb_wire.specs.Messages.{Update, update_body, update_of, split, message_size, IsMessage}
+use Rattle.xb_wire.proofs.Streams.{message_is_size, message_is_stable}
 use Rattle.bgp_write.specs.Written.{open_body}
 use Rattle.bgp_write.proofs.PackingLemmas.{in_place}
-use Rattle.xb_base.specs.Prefixes.{Prefix, prefix_of, prefix_at, prefix_octets, prefix_size, prefixes, are_prefixes, octets_for, cleared, IsPrefix}
-use Rattle.xb_base.proofs.PrefixLemmas.{prefix_is_size}
+use Rattle.xb_values.specs.Prefixes.{Prefix, prefix_of, prefix_at, prefix_octets, prefix_size, prefixes, are_prefixes, octets_for, cleared, IsPrefix}
+use Rattle.xb_values.proofs.PrefixLemmas.{prefix_is_size}
 
 pub prefix_is_stable : IsStable prefix_size
 prefix_is_stable [] t n e = cc

@@ -1,9 +1,9 @@
 -- An UPDATE that is being packed (RFC 4271, section 4.3).
 use Rattle.std.specs.Prelude.{◌≡◌, ℕ, ◌-◌, ◌≤◌, Bool, true, false, List, [], ◌∷◌, ◌++◌, length, replicate, slice_index, slice_range, if◌then◌else◌}
 use Rattle.xb_words.specs.Octets.{two_octets}
-use Rattle.xb_base.specs.Buffers.{Buffer}
-use Rattle.xb_base.specs.Prefixes.{Prefix, prefix_octets}
-use Rattle.xb_base.specs.Messages.{Update, update_message}
+use Rattle.xb_values.specs.Buffers.{Buffer}
+use Rattle.xb_values.specs.Prefixes.{Prefix, prefix_octets}
+use Rattle.xb_wire.specs.Messages.{Update, update_message}
 use Rattle.bgp_write.specs.Written.{with_two}
 
 -- whether prefixes are withdrawn or announced, the section with which they are announced, and the octets of the prefixes so far

@@ -1,8 +1,8 @@
 -- Messages as they are written (RFC 4271, sections 4.2, 4.4 and 4.5).
 use Rattle.std.specs.Prelude.{◌≡◌, ℕ, ◌+◌, List, [], ◌∷◌, ◌++◌, replicate, slice_set, slice_index}
 use Rattle.xb_words.specs.Octets.{two_octets, four_octets}
-use Rattle.xb_base.specs.Buffers.{Buffer}
-use Rattle.xb_base.specs.Messages.{message}
+use Rattle.xb_values.specs.Buffers.{Buffer}
+use Rattle.xb_wire.specs.Messages.{message}
 
 -- the content of a buffer is replaced, and its capacity stays
 abbrev pub Replaces : Buffer → Buffer → List ℕ → Type 0

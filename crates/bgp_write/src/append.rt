@@ -1,7 +1,7 @@
 ghost use Rattle.std.specs.Prelude.{◌≡◌, ◌+◌, ◌<◌, ◌≤◌, ◌++◌, length};
 ghost use Rattle.bgp_write.specs.Written.{Replaces, with_two};
 
-use xb_base::Buf;
+use xb_values::Buf;
 
 // Appends octets for which there is room.
 pub(crate) fn append(out: &mut Buf, octets: &[u8])

@@ -1,9 +1,9 @@
 ghost use Rattle.std.specs.Prelude.{◌≤◌, length};
-ghost use Rattle.xb_base.specs.Messages.{IsMessage};
+ghost use Rattle.xb_wire.specs.Messages.{IsMessage};
 ghost use Rattle.bgp_write.specs.Written.{Replaces, header, open_message, keepalive_message, notice_message};
 
 use crate::append::append;
-use xb_base::Buf;
+use xb_values::Buf;
 
 const OPEN: u8 = 1;
 

@@ -2,8 +2,8 @@
 ghost use Rattle.std.specs.Prelude.{◌≡◌, ◌<◌, ◌^◌, ℕ, List, [], ◌∷◌, length, flat_map, Some, true};
 ghost use Rattle.std.specs.List.{AllByRecursion};
 ghost use Rattle.xb_words.specs.Octets.{two_at, four_at};
-ghost use Rattle.xb_base.specs.Messages.{Update, message, kind_of, body_of, split, update_body, update_of, IsMessage};
-ghost use Rattle.xb_base.specs.Prefixes.{Prefix, prefixes, are_prefixes, prefix_octets, IsPrefix};
+ghost use Rattle.xb_wire.specs.Messages.{Update, message, kind_of, body_of, split, update_body, update_of, IsMessage};
+ghost use Rattle.xb_values.specs.Prefixes.{Prefix, prefixes, are_prefixes, prefix_octets, IsPrefix};
 ghost use Rattle.bgp_write.specs.Written.{open_body};
 
 /// A message that is written is read as that one message, with its type and its body.

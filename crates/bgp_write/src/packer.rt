@@ -1,11 +1,11 @@
 ghost use Rattle.std.specs.Prelude.{◌≡◌, ◌+◌, ◌-◌, ◌≤◌, ◌++◌, ◌↔◌, length, take, true, IsTrue, MatchBool};
-ghost use Rattle.xb_base.specs.Prefixes.{prefix_octets};
-ghost use Rattle.xb_base.specs.Messages.{IsMessage};
+ghost use Rattle.xb_values.specs.Prefixes.{prefix_octets};
+ghost use Rattle.xb_wire.specs.Messages.{IsMessage};
 ghost use Rattle.bgp_write.specs.Written.{Replaces};
 ghost use Rattle.bgp_write.specs.Packings.{packed_message, with_prefix, withdrawing, announcing, header_with, sized, tail_of, sealed, IsPacking};
 
 use crate::append::{append, set_two};
-use xb_base::{Buf, Prefix};
+use xb_values::{Buf, Prefix};
 
 // The most octets that a message has (RFC 4271, section 4.1).
 const LONGEST: usize = 4096;

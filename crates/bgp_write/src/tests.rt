@@ -1,6 +1,6 @@
 use crate::{Packer, write_keepalive, write_notice, write_open};
 use std::test::Fail;
-use xb_base::{Buf, Prefix};
+use xb_values::{Buf, Prefix};
 
 const OPEN: [u8; 29] = [
     255, 255, 255, 255, 255, 255, 255, 255, 255, 255, 255, 255, 255, 255, 255, 255, 0, 0x1d, 1, 4,

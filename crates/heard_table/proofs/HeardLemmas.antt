@@ -6,8 +6,8 @@ use Rattle.std.specs.Option.{option_and_then, option_map}
 use Rattle.std.proofs.Math.Dec.{eqb-suc-zero}
 use Rattle.xb_words.specs.Cut.{cut, walk, walk_from, placed}
 use Rattle.xb_words.specs.Table.{with_value, without}
-use Rattle.xb_base.specs.Prefixes.{Sections, prefix_cmp, prefix_at, prefix_size, are_prefixes}
-use Rattle.xb_base.specs.Messages.{Update, update_parts, lengths_fit, kind_of, body_of, split}
+use Rattle.xb_values.specs.Prefixes.{Sections, prefix_cmp, prefix_at, prefix_size, are_prefixes}
+use Rattle.xb_wire.specs.Messages.{Update, update_parts, lengths_fit, kind_of, body_of, split}
 use Rattle.bgp_update.specs.Heard.{heard, after_message, after_update, withdrawn_from, announced_in, is_readable, is_refused}
 use Rattle.bgp_update.specs.Walks.{found, messages_from, prefixes_from}
 use Rattle.bgp_update.proofs.WalkLemmas.{prefixes_nil}

@@ -1,6 +1,6 @@
 -- What `heard` answers.
 use Rattle.std.specs.Prelude.{◌≡◌, ℕ, Result, Ok, Err}
-use Rattle.xb_base.specs.Prefixes.{Sections}
+use Rattle.xb_values.specs.Prefixes.{Sections}
 use Rattle.heard_table.specs.declared.table.HeardError.{HeardError}
 use Rattle.heard_table.specs.declared.table.HeardError.TheVariants.{OutOfMemory, Bad}
 

@@ -3,8 +3,8 @@
 use Rattle.std.specs.Prelude.{ℕ, ◌==◌, if◌then◌else◌, List, [], ◌∷◌, Option, Some, None, Result, Ok, Err}
 use Rattle.std.specs.Option.{option_and_then, option_map}
 use Rattle.xb_words.specs.Table.{with_value, without}
-use Rattle.xb_base.specs.Prefixes.{Prefix, Sections, prefix_cmp}
-use Rattle.xb_base.specs.Messages.{Update, update_of}
+use Rattle.xb_values.specs.Prefixes.{Prefix, Sections, prefix_cmp}
+use Rattle.xb_wire.specs.Messages.{Update, update_of}
 use Rattle.bgp_update.specs.Walks.{Found, prefixes_from}
 
 -- without these prefixes

@@ -1,7 +1,7 @@
 ghost use Rattle.std.specs.Prelude.{◌≡◌, IfOk, Some, None, if◌then◌else◌};
 ghost use Rattle.std.specs.Option.{option_map};
 ghost use Rattle.xb_words.specs.Table.{entry_after, IsRising};
-ghost use Rattle.xb_base.specs.Prefixes.{prefix_cmp};
+ghost use Rattle.xb_values.specs.Prefixes.{prefix_cmp};
 ghost use Rattle.bgp_update.specs.Heard.{heard as heard_of};
 ghost use Rattle.bgp_update.specs.Walks.{prefixes_from};
 ghost use Rattle.heard_table.specs.Gives.{Gives};
@@ -14,7 +14,7 @@ use std::collections::BTreeMap;
 use std::marker::Model;
 use std::ops::Bound;
 use thiserror::Error;
-use xb_base::Prefix;
+use xb_values::Prefix;
 
 const UPDATE: u8 = 2;
 
@@ -38,7 +38,7 @@ pub struct Table {
 }
 
 impl Model for Table {
-    ghost use Rattle.xb_base.specs.Prefixes.{Sections};
+    ghost use Rattle.xb_values.specs.Prefixes.{Sections};
 
     ghost Value = { Sections };
 

@@ -3,9 +3,9 @@ use Rattle.std.proofs.Common.{◌≡◌, refl, subst, inl, inr, ℕ, ◌≤◌, 
 use Rattle.std.specs.Str.{bytes_eq}
 use Rattle.std.proofs.lemmas.Bool.{cases_Bool, leb-true}
 use Rattle.xb_words.specs.Optional.{◌>>=◌}
-use Rattle.xb_base.specs.Actors.{Event, start, stop, up, down, octets, time, room, drain, rescan}
-use Rattle.xb_base.specs.Readers.{parts, number_up_to}
-use Rattle.xb_base.proofs.ReaderLemmas.{number_fits}
+use Rattle.xb_domain.specs.Actors.{Event, start, stop, up, down, octets, time, room, drain, rescan}
+use Rattle.xb_values.specs.Readers.{parts, number_up_to}
+use Rattle.xb_values.proofs.ReaderLemmas.{number_fits}
 use Rattle.replay_log.specs.Lines.{blank, says, IsFor, at_least, peer_word, count_word, time_word, some_octets, peer_event, one_argument, two_arguments, event_of_words, line_of}
 
 -- steps that give something

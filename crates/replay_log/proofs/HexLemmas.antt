@@ -2,9 +2,9 @@
 use Rattle.std.proofs.Common.{◌≡◌, refl, sym, ap, ◌∙◌, ℕ, ◌+◌, ◌-◌, ◌*◌, ◌≤◌, List, [], ◌∷◌, ◌++◌, length, take, drop, get_or, Option, Some, None, Bool, arith, length-append}
 use Rattle.std.proofs.lemmas.List.{append_assoc, take_rest, length-drop}
 use Rattle.xb_words.specs.Optional.{◌>>=◌}
-use Rattle.xb_base.specs.Buffers.{Buffer, Appends}
-use Rattle.xb_base.specs.Readers.{hex_value, read_hex}
-use Rattle.xb_base.proofs.BufferLemmas.{appended}
+use Rattle.xb_values.specs.Buffers.{Buffer, Appends}
+use Rattle.xb_values.specs.Readers.{hex_value, read_hex}
+use Rattle.xb_values.proofs.BufferLemmas.{appended}
 use Rattle.replay_log.specs.Lines.{octet_value}
 
 -- octets, where there are some, behind others

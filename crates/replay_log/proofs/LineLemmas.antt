@@ -5,9 +5,9 @@ use Rattle.std.specs.Str.{bytes_eq}
 use Rattle.std.proofs.lemmas.Bool.{ne_eqb, eq-eqb, eqb-true}
 use Rattle.std.proofs.lemmas.Slice.Eq.{bytes_eq-Decides}
 use Rattle.xb_words.specs.Optional.{◌>>=◌}
-use Rattle.xb_base.specs.Actors.{Event, octets, time, room, rescan}
-use Rattle.xb_base.specs.Readers.{parts, is_digit, number_up_to, hex_value, read_hex}
-use Rattle.xb_base.proofs.ReaderLemmas.{parts_cases, number_none}
+use Rattle.xb_domain.specs.Actors.{Event, octets, time, room, rescan}
+use Rattle.xb_values.specs.Readers.{parts, is_digit, number_up_to, hex_value, read_hex}
+use Rattle.xb_values.proofs.ReaderLemmas.{parts_cases, number_none}
 use Rattle.replay_log.specs.Lines.{blank, says, at_least, peer_word, count_word, time_word, some_octets, peer_event, event_of_words, line_of}
 
 word_is : (word text : List ℕ) → bytes_eq word text ≡ true → word ≡ text

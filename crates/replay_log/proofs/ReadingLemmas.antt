@@ -4,8 +4,8 @@ use Rattle.std.specs.List.{position_or_len}
 use Rattle.std.proofs.lemmas.Bool.{cases_Bool, cases_lt, eqb-true, eqb-false, eq-eqb, ne_eqb, lt-ltb, le-ltb}
 use Rattle.std.proofs.lemmas.List.{append_assoc, append-nil, take_at, drop_all, length-take, get_or-take}
 use Rattle.std.proofs.lemmas.Option.{slice_get-get_or, slice_get_within, get_or_from_slice_get}
-use Rattle.xb_base.specs.Causes.{Files, file_named}
-use Rattle.xb_base.specs.Buffers.{Buffer, Appends}
+use Rattle.xb_io.specs.Causes.{Files, file_named}
+use Rattle.xb_values.specs.Buffers.{Buffer, Appends}
 use Rattle.replay_log.specs.Logs.{line_size, log_limit}
 use Rattle.replay_log.specs.declared.reader.Got.{Got}
 use Rattle.replay_log.specs.declared.reader.Got.TheVariants.{Line, End, LineTooLong, TooLong, Failed}

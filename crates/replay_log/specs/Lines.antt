@@ -2,8 +2,8 @@
 use Rattle.std.specs.Prelude.{ℕ, ◌+◌, ◌-◌, ◌*◌, ◌^◌, ◌≤◌, List, [], ◌∷◌, Option, Some, None, nat_le, codes, ◌==◌, if◌then◌else◌}
 use Rattle.std.specs.Str.{bytes_eq}
 use Rattle.xb_words.specs.Optional.{◌>>=◌}
-use Rattle.xb_base.specs.Actors.{Event, start, stop, up, down, octets, time, room, drain, rescan}
-use Rattle.xb_base.specs.Readers.{parts, number_up_to, hex_value, read_hex}
+use Rattle.xb_domain.specs.Actors.{Event, start, stop, up, down, octets, time, room, drain, rescan}
+use Rattle.xb_values.specs.Readers.{parts, number_up_to, hex_value, read_hex}
 
 -- what a line says: nothing, or an event
 pub data Line : Type 0 where

@@ -1,6 +1,6 @@
 -- Where a reader of a log stands, and what its next line is.
 use Rattle.std.specs.Prelude.{◌≡◌, ℕ, ◌+◌, ◌-◌, Bool, List, [], length, take, drop, Option, Some, None, MatchOption, nat_lt, ◌==◌, if◌then◌else◌}
-use Rattle.xb_base.specs.Causes.{Files, file_named}
+use Rattle.xb_io.specs.Causes.{Files, file_named}
 use Rattle.replay_log.specs.Lines.{line_of}
 use Rattle.replay_log.specs.Logs.{Log, ends, said_then, line_clock, whole, bad, too_long, line_size, longest_line, log_limit, log_at}
 use Rattle.replay_log.specs.declared.reader.Got.{Got}

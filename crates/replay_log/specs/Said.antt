@@ -2,9 +2,9 @@
 use Rattle.std.specs.Prelude.{◌≡◌, ℕ, List}
 use Rattle.std.specs.Borrow.{MutBor, Fml}
 use Rattle.std.specs.Io.BufRead.{Rests}
-use Rattle.xb_base.specs.Actors.{event_of, octets}
-use Rattle.xb_base.specs.Buffers.{Buffer}
-use Rattle.xb_base.specs.contracts.buf.Buf.{the_row}
+use Rattle.xb_domain.specs.Actors.{event_of, octets}
+use Rattle.xb_values.specs.Buffers.{Buffer}
+use Rattle.xb_values.specs.contracts.buf.Buf.{the_row}
 use Rattle.replay_log.specs.Lines.{Line, blank, says}
 use Rattle.replay_log.specs.declared.line.Line as lent
 use Rattle.replay_log.specs.declared.line.Line.TheVariants as lent_variants

@@ -1,9 +1,9 @@
 ghost use Rattle.std.specs.Prelude.{◌≡◌, ◌*◌, ◌≤◌, length, Some, is_some};
 ghost use Rattle.std.specs.Bool.{OnTrue};
-ghost use Rattle.xb_base.specs.Readers.{hex_value, read_hex};
+ghost use Rattle.xb_values.specs.Readers.{hex_value, read_hex};
 ghost use Rattle.replay_log.specs.Lines.{octet_value};
 
-use xb_base::Buf;
+use xb_values::Buf;
 
 fn digit_of(c: u8) -> Option<u8>
     ensures { result ≡ hex_value c }

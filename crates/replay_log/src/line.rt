@@ -2,14 +2,15 @@ ghost use Rattle.std.specs.Prelude.{◌≡◌, ℕ, ◌≤◌, ◌∷◌, length
 ghost use Rattle.std.specs.Borrow.{sem};
 ghost use Rattle.std.specs.Option.{option_map};
 ghost use Rattle.std.specs.Str.{bytes_eq};
-ghost use Rattle.xb_base.specs.Actors.{event_of, octets as octets_in, rescan};
-ghost use Rattle.xb_base.specs.Readers.{parts, number_up_to};
+ghost use Rattle.xb_domain.specs.Actors.{event_of, octets as octets_in, rescan};
+ghost use Rattle.xb_values.specs.Readers.{parts, number_up_to};
 ghost use Rattle.replay_log.specs.Lines.{at_least, peer_event, event_of_words, line_of};
 ghost use Rattle.replay_log.specs.Logs.{longest_line};
 ghost use Rattle.replay_log.specs.Said.{said, told_with, KeepsRoom};
 
 use crate::hex::read_hex;
-use xb_base::{Buf, Event, read_decimal, split_once};
+use xb_domain::Event;
+use xb_values::{Buf, read_decimal, split_once};
 
 /// What a line says: nothing, or an event. The octets of an event stand in the buffer that the line was read with.
 #[derive(Clone, Copy, Debug)]

@@ -1,12 +1,13 @@
 ghost use Rattle.std.specs.Prelude.{◌≡◌, ◌≢◌, ◌⊎◌, ℕ, ◌+◌, ◌<◌, ◌≤◌, List, [], length, slice_get, Some, IfOk, IfSome, IfErr, OnOk, OnErr, IsErr};
-ghost use Rattle.xb_base.specs.Causes.{Rose, IsMissing, told_text};
+ghost use Rattle.xb_io.specs.Causes.{Rose, IsMissing, told_text};
 ghost use Rattle.replay_log.specs.Logs.{log_limit, longest_line};
 ghost use Rattle.replay_log.specs.Readings.{next_at, answered, StandsAhead};
 
 use std::alloc::{AllocError, Global};
 use std::marker::Model;
 use std::mem;
-use xb_base::{Buf, Failed, Shelf};
+use xb_io::{Failed, Shelf};
+use xb_values::Buf;
 
 const LOG_LIMIT: u64 = 67_108_864;
 

@@ -2,7 +2,8 @@ use crate::{Got, LogReader, parse_line};
 use std::fs;
 use std::process::Abort;
 use std::test::Fail;
-use xb_base::{Buf, FileShelf, MemShelf};
+use xb_io::{FileShelf, MemShelf};
+use xb_values::Buf;
 
 // What a line says for 3 peers and from clock 5 on.
 fn said(rt: &(impl AllocGlobal + Abort), line: &[u8]) -> Result<String, Fail> {

@@ -1,38 +1,15 @@
-//! What all crates above share: prefixes, the texts of numbers and octets, buffers of a fixed capacity,
-//! and where files are read and text is put.
+//! The words that all crates share, under one name.
 //!
-//! It stands on `xb_words`. The definition of a stream of BGP messages (RFC 4271, sections 4.1 and 6.1) is in
-//! `specs/Messages`; `laws::one_split` says that a stream has exactly one split into messages and a rest.
-//! A `Shelf` and a `Sink` say what they hold and took, where they tell, and count their faults; `MemShelf` and
-//! `MemSink` tell, `FileShelf` and `StdSink` adapt the real file and standard output and tell nothing.
+//! This crate has nothing of its own. It hands on xb_values (prefixes, buffers, texts), xb_wire (message headers and
+//! streams), xb_io (shelves, sinks, pages) and xb_domain (events, points, kinds of faults). Each crate of the product
+//! names the part that it uses, so that a change of one part proves again only what uses that part; a program above
+//! may use this one name.
 #![tactic(auto)]
 
-mod actor;
-mod bad;
-mod buf;
-mod header;
-pub mod laws;
-mod memory;
-mod notice;
-mod page;
-mod prefix;
-mod reader;
-mod real;
-mod shelf;
-mod text;
-
-pub use actor::{Event, Point, Side, helper_allowed};
-pub use bad::{BadKind, Part};
-pub use buf::Buf;
-pub use header::{HeaderFault, fault_in_header};
-pub use memory::{MemShelf, MemSink};
-pub use notice::Notice;
-pub use page::gather;
-pub use prefix::Prefix;
-pub use reader::{read_decimal, read_dotted, read_prefix, split_once};
-pub use real::{FileShelf, StdSink};
-pub use shelf::{Failed, Shelf, Sink};
-pub use text::{push_decimal, push_dotted, push_hex, push_prefix};
-
-#[cfg(test)]
-mod tests;
+pub use xb_domain::{BadKind, Event, Part, Point, Side, helper_allowed};
+pub use xb_io::{Failed, FileShelf, MemShelf, MemSink, Shelf, Sink, StdSink, gather};
+pub use xb_values::{
+    Buf, Prefix, append_decimal, append_hex, append_prefix, push_decimal, push_dotted, push_hex,
+    push_prefix, read_decimal, read_dotted, read_prefix, split_once,
+};
+pub use xb_wire::{HeaderFault, Notice, fault_in_header, laws};

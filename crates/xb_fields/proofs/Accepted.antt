@@ -3,8 +3,8 @@ use Rattle.std.proofs.Common.{◌≡◌, ℕ, zero, suc, ◌<◌, ◌≤◌, ℤ
 use Rattle.std.specs.List.{list_any}
 use Rattle.std.proofs.lemmas.Bool.{cases_Bool, leb-true, or_parts}
 use Rattle.toml.specs.Data.{Data, Members, get_member, as_integer, as_array}
-use Rattle.xb_base.specs.declared.bad.BadKind.{BadKind}
-use Rattle.xb_base.specs.declared.bad.BadKind.TheVariants.{Shape, Missing, Range, Count}
+use Rattle.xb_domain.specs.declared.bad.BadKind.{BadKind}
+use Rattle.xb_domain.specs.declared.bad.BadKind.TheVariants.{Shape, Missing, Range, Count}
 use Rattle.xb_fields.specs.declared.fault.Place.{Place}
 use Rattle.xb_fields.specs.Fields.{Judged, ◌>>=◌, found, must, is_between, number_between, number, string_in, text, data_of, list_of, required, optional}
 use Rattle.xb_fields.proofs.Steps.{bind_ok}

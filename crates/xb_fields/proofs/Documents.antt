@@ -2,8 +2,8 @@
 use Rattle.std.proofs.Common.{◌≡◌, ℕ, true, List, Some, None, Ok, Err, inl, inr}
 use Rattle.std.proofs.lemmas.Bool.{cases_Bool}
 use Rattle.std.specs.Str.{is_utf8}
-use Rattle.xb_base.specs.declared.bad.BadKind.TheVariants.{Text}
-use Rattle.xb_base.specs.declared.bad.Part.TheVariants.{Top}
+use Rattle.xb_domain.specs.declared.bad.BadKind.TheVariants.{Text}
+use Rattle.xb_domain.specs.declared.bad.Part.TheVariants.{Top}
 use Rattle.toml.specs.Parse.{parse_document}
 use Rattle.toml.specs.Data.{Members}
 use Rattle.xb_fields.specs.Fields.{document, bad_at, place}

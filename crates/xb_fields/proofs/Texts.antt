@@ -1,7 +1,7 @@
 -- A text that must be there, and what is read from it.
 use Rattle.std.proofs.Common.{◌≡◌, ℕ, List, Option, Ok, Err, refl, ap, ◌∙◌}
 use Rattle.toml.specs.Data.{Data, Members, get_member}
-use Rattle.xb_base.specs.declared.bad.BadKind.TheVariants.{Range, Missing}
+use Rattle.xb_domain.specs.declared.bad.BadKind.TheVariants.{Range, Missing}
 use Rattle.xb_fields.specs.declared.fault.Bad.{Bad}
 use Rattle.xb_fields.specs.declared.fault.Place.{Place}
 use Rattle.xb_fields.specs.Fields.{Judged, ◌>>=◌, found, required, string_in, text}

@@ -9,7 +9,7 @@ use Rattle.toml.specs.View.{view, items_view, members_view, table_view}
 use Rattle.toml.specs.declared.value.Value.{Value}
 use Rattle.xb_fields.specs.Fields.{data_of, keys_of, is_listed, keys_listed, list_of, bad_at}
 use Rattle.xb_fields.specs.declared.fault.Place.{Place}
-use Rattle.xb_base.specs.declared.bad.BadKind.TheVariants.{Count}
+use Rattle.xb_domain.specs.declared.bad.BadKind.TheVariants.{Count}
 use Rattle.std.proofs.lemmas.List.{length-map}
 
 -- the items of an array are its values

@@ -4,10 +4,10 @@ use Rattle.std.specs.List.{list_any, list_all}
 use Rattle.std.specs.Str.{bytes_eq, is_utf8}
 use Rattle.toml.specs.Parse.{parse_document}
 use Rattle.toml.specs.Data.{Data, Items, no_items, item, Members, no_members, member, get_member, as_str, as_integer, as_array, as_table}
-use Rattle.xb_base.specs.declared.bad.BadKind.{BadKind}
-use Rattle.xb_base.specs.declared.bad.BadKind.TheVariants.{Text, Shape, Key, Missing, Range, Count}
-use Rattle.xb_base.specs.declared.bad.Part.{Part}
-use Rattle.xb_base.specs.declared.bad.Part.TheVariants.{Top}
+use Rattle.xb_domain.specs.declared.bad.BadKind.{BadKind}
+use Rattle.xb_domain.specs.declared.bad.BadKind.TheVariants.{Text, Shape, Key, Missing, Range, Count}
+use Rattle.xb_domain.specs.declared.bad.Part.{Part}
+use Rattle.xb_domain.specs.declared.bad.Part.TheVariants.{Top}
 use Rattle.xb_fields.specs.declared.fault.Bad.{Bad}
 use Rattle.xb_fields.specs.declared.fault.Place.{Place}
 

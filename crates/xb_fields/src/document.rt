@@ -7,7 +7,7 @@ ghost use Rattle.xb_fields.specs.Outcomes.{Gives};
 use crate::fault::{FieldError, Place};
 use std::alloc::Global;
 use toml::{Table, table_from_slice};
-use xb_base::{BadKind, Part};
+use xb_domain::{BadKind, Part};
 
 const TOP: Place = Place {
     part: Part::Top,

@@ -3,7 +3,7 @@ ghost use Rattle.std.specs.Prelude.{◌≡◌};
 
 use std::alloc::{AllocError, AllocFailed};
 use thiserror::Error;
-use xb_base::{BadKind, Part};
+use xb_domain::{BadKind, Part};
 
 /// A fault. `index` is the position of an entry from 1, or 0; `slot` is 0 where the fault is none of a program's code.
 #[derive(Clone, Copy, Debug, PartialEq, Eq)]

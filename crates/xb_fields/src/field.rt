@@ -6,13 +6,13 @@ ghost use Rattle.std.specs.BTreeMap.{keys};
 ghost use Rattle.std.specs.Str.{bytes_eq};
 ghost use Rattle.toml.specs.Data.{get_member};
 ghost use Rattle.toml.specs.View.{view, table_view};
-ghost use Rattle.xb_base.specs.declared.bad.BadKind.TheVariants.{Missing};
+ghost use Rattle.xb_domain.specs.declared.bad.BadKind.TheVariants.{Missing};
 ghost use Rattle.xb_fields.specs.Fields.{keys_listed, found, number, string_in, list_of, required, optional};
 
 use crate::fault::{Bad, Place};
 use crate::value::{list_of, number, text};
 use toml::{Table, Value};
-use xb_base::BadKind;
+use xb_domain::BadKind;
 
 /// Whether a table has listed keys alone.
 pub fn keys_listed(listed: &[&str], table: &Table) -> bool

@@ -7,7 +7,7 @@ ghost use Rattle.xb_fields.specs.Fields.{table_with, number, number_between, str
 use crate::fault::{Bad, Place};
 use crate::field::keys_listed;
 use toml::{Table, Value};
-use xb_base::BadKind;
+use xb_domain::BadKind;
 
 /// The table that a value is, with listed keys alone.
 #[tactic(auto, unfolding(crate::specs::Fields::table_with))]

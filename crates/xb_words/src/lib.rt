@@ -1,15 +1,19 @@
-//! Words that all crates above share: numbers in network order, items that stand one after another,
-//! and finite maps as their entries by rising key.
+//! Octets and finite maps, the words that all crates above share.
 //!
-//! It stands on nothing. The definitions are in `specs/`: `Octets` (numbers of two and four octets),
-//! `Cut` (a list of octets cut into items by a size), `Table` (finite maps and sets) and `Optional`
-//! (steps that may give nothing). `proofs/Cutting` has the laws of `cut`, which each walk over octets uses.
+//! Numbers stand in octets in network order ([`u16_at`], [`u32_at`]). A list of octets is cut into items that follow one
+//! another by a size, which says how many octets the item at the front has: messages, prefixes, attributes, segments,
+//! parameters and lines are all cut by the one definition `cut`, so its laws are proved once. A finite map is the list
+//! of its entries by rising key.
+//!
+//! The crate uses no other. It has few functions; what it is there for are the definitions in `specs/` and their lemmas.
 #![tactic(auto)]
 
-ghost use Rattle.std.specs.Prelude.{◌≡◌, ◌+◌, ◌≤◌, length};
+ghost use Rattle.std.specs.Prelude.{◌≡◌, ◌+◌, ◌≤◌, ◌++◌, length, take, drop, replicate, IfOk};
 ghost use Rattle.xb_words.specs.Octets.{two_at, four_at};
 
-/// The number of two octets in network order that begins at a place (RFC 4271, section 4).
+use std::alloc::{AllocError, Global};
+
+/// The number of two octets in network order that begins at an offset (RFC 4271, section 4).
 #[inline]
 pub fn u16_at(octets: &[u8], at: usize) -> u16
     requires { at + 2 ≤ length octets.now }
@@ -18,11 +22,27 @@ pub fn u16_at(octets: &[u8], at: usize) -> u16
     u16::from_be_bytes([octets[at], octets[at + 1]])
 }
 
-/// The number of four octets in network order that begins at a place (RFC 4271, section 4).
+/// The number of four octets in network order that begins at an offset (RFC 4271, section 4).
 #[inline]
 pub fn u32_at(octets: &[u8], at: usize) -> u32
     requires { at + 4 ≤ length octets.now }
     ensures { result ≡ four_at octets.now at }
 {
     u32::from_be_bytes([octets[at], octets[at + 1], octets[at + 2], octets[at + 3]])
+}
+
+/// Copies octets over those of a slice that begin at an offset.
+#[inline]
+pub fn copy_at(out: &mut [u8], at: usize, octets: &[u8])
+    requires { at + length octets.now ≤ length out.old }
+    ensures { out.new ≡ take at out.old ++ octets.now ++ drop (at + length octets.now) out.old }
+{
+    out[at..at + octets.len()].copy_from_slice(octets);
+}
+
+/// A vector of that many zeros.
+pub fn zeros(alloc: Global, count: usize) -> Result<Vec<u8>, AllocError>
+    ensures { IfOk result (λ v. v.items ≡ replicate count 0) }
+{
+    vec![in alloc; 0u8; count]
 }

@@ -5,10 +5,10 @@ use Rattle.std.specs.Option.{option_map}
 use Rattle.std.proofs.lemmas.Bool.{cases_Bool, eqb-true}
 use Rattle.xb_words.specs.Octets.{four_at}
 use Rattle.xb_words.specs.Optional.{◌>>=◌}
-use Rattle.xb_base.specs.Prefixes.{Prefix, IsPrefix, prefix_of}
-use Rattle.xb_base.proofs.PrefixLemmas.{prefix_is_one}
-use Rattle.xb_base.proofs.ReaderLemmas.{number_fits}
-use Rattle.xb_base.specs.Readers.{parts, number_up_to, octet_texts, read_dotted, prefix_in, read_prefix}
+use Rattle.xb_values.specs.Prefixes.{Prefix, IsPrefix, prefix_of}
+use Rattle.xb_values.proofs.PrefixLemmas.{prefix_is_one}
+use Rattle.xb_values.proofs.ReaderLemmas.{number_fits}
+use Rattle.xb_values.specs.Readers.{parts, number_up_to, octet_texts, read_dotted, prefix_in, read_prefix}
 use Rattle.xb_fields.proofs.Accepted.{guarded}
 use Rattle.xbgp_config.specs.Configs.{passing}
 

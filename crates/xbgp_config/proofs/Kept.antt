@@ -7,10 +7,10 @@ use Rattle.std.proofs.lemmas.Bool.{and_parts, or_parts, leb-true, eq-eqb, eqb-fa
 use Rattle.std.proofs.lemmas.List.Elements.{All-push}
 use Rattle.std.proofs.lemmas.List.Quantifiers.{all_pairs_push}
 use Rattle.toml.specs.Data.{Data, Members}
-use Rattle.xb_base.specs.declared.bad.BadKind.TheVariants.{Range, Double, Key}
-use Rattle.xb_base.specs.declared.bad.Part.TheVariants.{Top, Speaker, Network, Peer, Cost}
-use Rattle.xb_base.specs.Prefixes.{Prefix, IsPrefix}
-use Rattle.xb_base.specs.Readers.{read_dotted, read_prefix}
+use Rattle.xb_domain.specs.declared.bad.BadKind.TheVariants.{Range, Double, Key}
+use Rattle.xb_domain.specs.declared.bad.Part.TheVariants.{Top, Speaker, Network, Peer, Cost}
+use Rattle.xb_values.specs.Prefixes.{Prefix, IsPrefix}
+use Rattle.xb_values.specs.Readers.{read_dotted, read_prefix}
 use Rattle.xb_fields.specs.declared.fault.Place.{Place}
 use Rattle.xb_fields.specs.Fields.{Judged, ◌>>=◌, document, place, required, optional, number, text, entries, is_between, keys_listed, table_with, list_of}
 use Rattle.xb_fields.proofs.Steps.{bind_ok, same_ok, entries_keep, length-entries}

@@ -3,11 +3,11 @@ use Rattle.std.specs.Prelude.{◌≡◌, ◌≢◌, ℕ, ◌/◌, ◌^◌, ◌�
 use Rattle.std.specs.List.{list_any, All, AllPairs}
 use Rattle.std.specs.Result.{result_map_both}
 use Rattle.toml.specs.Data.{Data, Members}
-use Rattle.xb_base.specs.declared.bad.BadKind.TheVariants.{Key, Range, Double}
-use Rattle.xb_base.specs.declared.bad.Part.TheVariants.{Top, Speaker, Network, Peer, Cost}
-use Rattle.xb_base.specs.declared.actor.Side.{Side}
-use Rattle.xb_base.specs.Prefixes.{Prefix, IsPrefix}
-use Rattle.xb_base.specs.Readers.{read_dotted, read_prefix}
+use Rattle.xb_domain.specs.declared.bad.BadKind.TheVariants.{Key, Range, Double}
+use Rattle.xb_domain.specs.declared.bad.Part.TheVariants.{Top, Speaker, Network, Peer, Cost}
+use Rattle.xb_domain.specs.declared.actor.Side.{Side}
+use Rattle.xb_values.specs.Prefixes.{Prefix, IsPrefix}
+use Rattle.xb_values.specs.Readers.{read_dotted, read_prefix}
 use Rattle.xb_fields.specs.declared.fault.Bad.{Bad}
 use Rattle.xb_fields.specs.Fields.{Judged, ◌>>=◌, place, must, document, keys_listed, table_with, number, text, required, optional, list_of, entries, is_between}
 use Rattle.xbgp_config.specs.declared.speaker.SpeakerFields.{SpeakerFields}

@@ -2,8 +2,8 @@
 ghost use Rattle.std.specs.Prelude.{◌≡◌, Ok, Err, IfOk, IsErrOf};
 ghost use Rattle.std.specs.Result.{result_map_both};
 ghost use Rattle.toml.specs.View.{table_view};
-ghost use Rattle.xb_base.specs.declared.bad.BadKind.TheVariants.{Key};
-ghost use Rattle.xb_base.specs.declared.bad.Part.TheVariants.{Top};
+ghost use Rattle.xb_domain.specs.declared.bad.BadKind.TheVariants.{Key};
+ghost use Rattle.xb_domain.specs.declared.bad.Part.TheVariants.{Top};
 ghost use Rattle.xb_fields.specs.Fields.{must, place, keys_listed};
 ghost use Rattle.xb_fields.specs.Outcomes.{Gives};
 ghost use Rattle.xbgp_config.specs.Configs.{config, config_of, top_keys, IsConfig};
@@ -16,7 +16,7 @@ use crate::speaker::read_speaker;
 use std::alloc::Global;
 use std::marker::Model;
 use toml::Table;
-use xb_base::{BadKind, Part, Side};
+use xb_domain::{BadKind, Part, Side};
 use xb_fields::{Bad, FieldError, Place, keys_listed, optional_list, read_document, required};
 
 const TOP: Place = Place {

@@ -10,7 +10,7 @@ use crate::texts::required_address;
 use std::alloc::Global;
 use std::collections::BTreeSet;
 use toml::Value;
-use xb_base::{BadKind, Part};
+use xb_domain::{BadKind, Part};
 use xb_fields::{Bad, FieldError, Place, required_number, table_with};
 
 #[tactic(auto, unfolding(crate::specs::Configs::cost_fields))]

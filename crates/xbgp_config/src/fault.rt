@@ -2,7 +2,7 @@
 ghost use Rattle.std.specs.Prelude.{◌≡◌};
 
 use thiserror::Error;
-use xb_base::{BadKind, Part};
+use xb_domain::{BadKind, Part};
 use xb_fields::FieldError;
 
 /// What is wrong with a configuration, and where. `index` is the position of an entry from 1, or 0.

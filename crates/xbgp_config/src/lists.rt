@@ -2,7 +2,7 @@
 ghost use Rattle.std.specs.Prelude.{◌≡◌, ◌<◌, Some, length, slice_get};
 
 use std::marker::Model;
-use xb_base::Prefix;
+use xb_values::Prefix;
 
 /// The greatest AS number that a configuration may have.
 pub(crate) const GREATEST_AS: u32 = 65535;
@@ -29,7 +29,7 @@ pub struct Networks {
 
 impl Model for Networks {
     ghost use Rattle.std.specs.Prelude.{List};
-    ghost use Rattle.xb_base.specs.Prefixes.{Prefix};
+    ghost use Rattle.xb_values.specs.Prefixes.{Prefix};
 
     ghost Value = { List Prefix };
 

@@ -1,7 +1,7 @@
 // The networks of the speaker.
 ghost use Rattle.std.specs.Prelude.{◌≡◌, ◌<◌, ◌-◌, ◌^◌, length, map};
 ghost use Rattle.toml.specs.View.{view};
-ghost use Rattle.xb_base.specs.Readers.{read_prefix};
+ghost use Rattle.xb_values.specs.Readers.{read_prefix};
 ghost use Rattle.xb_fields.specs.Fields.{text, entries};
 ghost use Rattle.xb_fields.specs.Outcomes.{Gives};
 ghost use Rattle.xbgp_config.specs.Configs.{network_entry};
@@ -10,7 +10,8 @@ use crate::lists::Networks;
 use std::alloc::Global;
 use std::collections::BTreeSet;
 use toml::Value;
-use xb_base::{BadKind, Part, Prefix, read_prefix};
+use xb_domain::{BadKind, Part};
+use xb_values::{Prefix, read_prefix};
 use xb_fields::{Bad, FieldError, Place, text};
 
 fn network(at: Place, value: &Value) -> Result<Prefix, Bad>

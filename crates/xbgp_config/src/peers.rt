@@ -10,7 +10,7 @@ use crate::lists::{GREATEST_AS, PeerEntry, Peers};
 use crate::texts::required_host;
 use std::alloc::Global;
 use toml::Value;
-use xb_base::{BadKind, Part};
+use xb_domain::{BadKind, Part};
 use xb_fields::{Bad, FieldError, Place, required_number, table_with};
 
 #[tactic(auto, unfolding(crate::specs::Configs::peer_fields))]

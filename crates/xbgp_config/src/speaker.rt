@@ -10,11 +10,8 @@ use crate::networks::read_networks;
 use crate::texts::{required_host, required_id};
 use std::alloc::Global;
 use toml::{Table, Value};
-use xb_base::{BadKind, Part, Side};
-use xb_fields::{
-    Bad, FieldError, Place, number, optional_list, optional_number, required_number, table_with,
-    value_at,
-};
+use xb_domain::{BadKind, Part, Side};
+use xb_fields::{Bad, FieldError, Place, number, optional_list, optional_number, required_number, table_with, value_at};
 
 const SPEAKER: Place = Place {
     part: Part::Speaker,

@@ -1,12 +1,13 @@
 // Addresses, as keys of tables say them.
 ghost use Rattle.std.specs.Prelude.{◌≡◌};
 ghost use Rattle.toml.specs.View.{table_view};
-ghost use Rattle.xb_base.specs.Readers.{read_dotted};
+ghost use Rattle.xb_values.specs.Readers.{read_dotted};
 ghost use Rattle.xb_fields.specs.Fields.{required, text};
 ghost use Rattle.xbgp_config.specs.Configs.{is_host_address, host_text, id_text};
 
 use toml::Table;
-use xb_base::{BadKind, read_dotted};
+use xb_domain::BadKind;
+use xb_values::read_dotted;
 use xb_fields::{Bad, Place, required_text};
 
 fn is_host_address(address: u32) -> bool

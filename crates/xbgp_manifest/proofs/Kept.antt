@@ -14,9 +14,9 @@ use Rattle.toml.specs.View.{view}
 use Rattle.toml.specs.declared.value.Value.{Value}
 use Rattle.bpf_insn.specs.declared.fault.LoadFault.{LoadFault}
 use Rattle.bpf_insn.specs.Loading.{load_fault}
-use Rattle.xb_base.specs.Actors.{helper_allowed}
-use Rattle.xb_base.specs.declared.bad.BadKind.TheVariants.{Key, Room, Double}
-use Rattle.xb_base.specs.declared.bad.Part.TheVariants.{Top, Map, Program}
+use Rattle.xb_domain.specs.Actors.{helper_allowed}
+use Rattle.xb_domain.specs.declared.bad.BadKind.TheVariants.{Key, Room, Double}
+use Rattle.xb_domain.specs.declared.bad.Part.TheVariants.{Top, Map, Program}
 use Rattle.xb_fields.specs.declared.fault.Place.{Place}
 use Rattle.xb_fields.specs.Fields.{Judged, ◌>>=◌, document, place, required, optional, number, text, entries, keys_listed, table_with, list_of, bad_at}
 use Rattle.xb_fields.proofs.Steps.{bind_ok, same_ok, entries_keep, length-entries}

@@ -4,7 +4,7 @@ ghost use Rattle.std.specs.Result.{result_map_both};
 ghost use Rattle.toml.specs.View.{table_view};
 ghost use Rattle.xb_fields.specs.Fields.{found, required, text};
 ghost use Rattle.xb_fields.specs.Outcomes.{Gives};
-ghost use Rattle.xb_base.specs.declared.bad.BadKind.TheVariants.{Range};
+ghost use Rattle.xb_domain.specs.declared.bad.BadKind.TheVariants.{Range};
 ghost use Rattle.xbgp_manifest.specs.Manifests.{kind_of, code_text, loaded_at};
 
 use crate::point::helpers_at;
@@ -12,7 +12,7 @@ use bpf_insn::{Code, LoadError, LoadKind, load};
 use hex::FromHexError;
 use std::alloc::Global;
 use toml::Table;
-use xb_base::{BadKind, Part, Point};
+use xb_domain::{BadKind, Part, Point};
 use xb_fields::{Bad, FieldError, Place, required_text};
 
 /// A fault of bytecode as a fault of what it stands in.

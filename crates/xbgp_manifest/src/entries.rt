@@ -4,7 +4,7 @@ ghost use Rattle.std.specs.Prelude.{◌≡◌, ◌<◌, Some, length, slice_get}
 use crate::name::Name;
 use bpf_insn::Code;
 use std::marker::Model;
-use xb_base::Point;
+use xb_domain::Point;
 use xbgp_maps::MapShape;
 
 /// A map that programs share.

@@ -1,8 +1,8 @@
 // The manifest that a text says.
 ghost use Rattle.std.specs.Prelude.{◌≡◌, ◌≤◌, Ok, Err, IfOk, IsErrOf, length, nat_le};
 ghost use Rattle.toml.specs.View.{table_view};
-ghost use Rattle.xb_base.specs.declared.bad.BadKind.TheVariants.{Key, Room};
-ghost use Rattle.xb_base.specs.declared.bad.Part.TheVariants.{Top};
+ghost use Rattle.xb_domain.specs.declared.bad.BadKind.TheVariants.{Key, Room};
+ghost use Rattle.xb_domain.specs.declared.bad.Part.TheVariants.{Top};
 ghost use Rattle.xb_fields.specs.Fields.{must, place, keys_listed};
 ghost use Rattle.xb_fields.specs.Outcomes.{Gives};
 ghost use Rattle.xbgp_manifest.specs.Manifests.{manifest, manifest_of, room_of, top_keys, IsManifest};
@@ -14,10 +14,8 @@ use crate::programs::read_programs;
 use std::alloc::{AllocError, Global};
 use std::marker::Model;
 use toml::Table;
-use xb_base::{BadKind, Part};
-use xb_fields::{
-    Bad, FieldError, Place, keys_listed, optional_list, read_document, required_number,
-};
+use xb_domain::{BadKind, Part};
+use xb_fields::{Bad, FieldError, Place, keys_listed, optional_list, read_document, required_number};
 
 const TOP: Place = Place {
     part: Part::Top,

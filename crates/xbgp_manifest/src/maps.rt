@@ -13,7 +13,7 @@ use crate::name::{Name, required_name};
 use indexmap::IndexSet;
 use std::alloc::Global;
 use toml::{Table, Value};
-use xb_base::{BadKind, Part};
+use xb_domain::{BadKind, Part};
 use xb_fields::{Bad, FieldError, Place, required_number, table_with};
 use xbgp_maps::MapShape;
 

@@ -9,7 +9,7 @@ ghost use Rattle.xbgp_manifest.specs.Manifests.{is_name_character, is_name, name
 use std::alloc::{AllocError, Global};
 use std::marker::Model;
 use toml::Table;
-use xb_base::BadKind;
+use xb_domain::BadKind;
 use xb_fields::{Bad, Place, required_text};
 
 /// The name of a map or of a program.

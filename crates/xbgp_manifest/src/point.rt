@@ -2,13 +2,13 @@
 ghost use Rattle.std.specs.Prelude.{◌≡◌, ℕ, codes};
 ghost use Rattle.toml.specs.View.{table_view};
 ghost use Rattle.bpf_insn.specs.Helpers.{allows};
-ghost use Rattle.xb_base.specs.Actors.{helper_allowed};
+ghost use Rattle.xb_domain.specs.Actors.{helper_allowed};
 ghost use Rattle.xb_fields.specs.Fields.{required, text};
 ghost use Rattle.xbgp_manifest.specs.Manifests.{point_text};
 
 use bpf_insn::HelperSet;
 use toml::Table;
-use xb_base::{BadKind, Point, helper_allowed};
+use xb_domain::{BadKind, Point, helper_allowed};
 use xb_fields::{Bad, Place, required_text};
 
 fn point_in(word: &str) -> Option<Point>

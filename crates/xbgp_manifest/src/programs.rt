@@ -14,7 +14,7 @@ use crate::point::required_point;
 use indexmap::IndexSet;
 use std::alloc::Global;
 use toml::Value;
-use xb_base::{BadKind, Part, Point};
+use xb_domain::{BadKind, Part, Point};
 use xb_fields::{FieldError, Place, required_number, table_with};
 
 /// What a program's table says.

@@ -3,7 +3,7 @@ use Rattle.std.proofs.Common.{◌≡◌, ◌≢◌, refl, ap, sym, subst, ℕ, B
 use Rattle.std.specs.Prelude.{Result, codes}
 use Rattle.std.specs.Option.{option_map}
 use Rattle.std.specs.Str.{bytes_eq}
-use Rattle.xb_base.specs.Causes.{Files}
+use Rattle.xb_io.specs.Causes.{Files}
 use Rattle.xbgp_config.specs.declared.fault.ConfigFault.{ConfigFault}
 use Rattle.xbgp_config.specs.Configs.{Config}
 use Rattle.xbgp_manifest.specs.declared.fault.ManifestFault.{ManifestFault}

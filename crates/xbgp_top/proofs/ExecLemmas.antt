@@ -1,6 +1,6 @@
 -- What is answered to bytecode that runs alone.
 use Rattle.std.proofs.Common.{◌≡◌, ℕ, Bool, false, List, ◌++◌, Option, None, Some, ◌∙◌, ap, sym, subst}
-use Rattle.xb_base.specs.Texts.{line}
+use Rattle.xb_values.specs.Texts.{line}
 use Rattle.bpf_insn.specs.declared.fault.LoadFault.{LoadFault}
 use Rattle.bpf_insn.specs.Loading.{load_fault}
 use Rattle.bpf_insn.proofs.Faults.{load_fault-same}

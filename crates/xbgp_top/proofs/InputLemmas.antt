@@ -2,7 +2,7 @@
 use Rattle.std.proofs.Common.{◌≡◌, ℕ, ◌+◌, List, [], ◌++◌, length, take, drop, Option, Some, None, MatchOption, Bool, true, if◌then◌else◌, sym, ◌∙◌, ap, subst, arith, length-append}
 use Rattle.std.proofs.lemmas.List.{length-take-le}
 use Rattle.std.proofs.Math.Seq.{take-add}
-use Rattle.xb_base.specs.Causes.{Files, file_named, Reads, ReadsPart}
+use Rattle.xb_io.specs.Causes.{Files, file_named, Reads, ReadsPart}
 use Rattle.xbgp_top.specs.Inputs.{IsFront}
 
 found_more : (found : Option (List ℕ)) (front buf : List ℕ) (n : ℕ)

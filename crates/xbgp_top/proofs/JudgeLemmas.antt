@@ -4,10 +4,10 @@ use Rattle.std.specs.Prelude.{◌==◌}
 use Rattle.std.specs.List.{concat}
 use Rattle.std.proofs.Math.Dec.{eqb-suc-zero}
 use Rattle.xb_words.specs.Cut.{walk, walk_from, placed}
-use Rattle.xb_base.specs.Messages.{split}
+use Rattle.xb_wire.specs.Messages.{split}
 use Rattle.bgp_update.specs.Walks.{Found, found, messages_from}
-use Rattle.xb_base.specs.Pages.{Gathered}
-use Rattle.xb_base.proofs.PageLemmas.{begun, joined_on}
+use Rattle.xb_io.specs.Pages.{Gathered}
+use Rattle.xb_io.proofs.PageLemmas.{begun, joined_on}
 use Rattle.xbgp_top.specs.declared.status.Status.{Status}
 use Rattle.xbgp_top.specs.Outputs.{Stops}
 use Rattle.xbgp_top.proofs.OutputLemmas.{stops_behind}

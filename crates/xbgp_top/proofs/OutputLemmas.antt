@@ -4,11 +4,11 @@ use Rattle.std.specs.Result.{IsErrAnd}
 use Rattle.std.proofs.lemmas.List.{append-nil}
 use Rattle.xb_words.specs.Table.{behind, entry_after, IsRising}
 use Rattle.xb_words.proofs.Tables.{after-some, after-none}
-use Rattle.xb_base.specs.Causes.{Rose, TookFront}
-use Rattle.xb_base.specs.Pages.{Gathered}
-use Rattle.xb_base.specs.Prefixes.{Prefix, Sections, prefix_cmp}
-use Rattle.xb_base.proofs.PageLemmas.{joined_on, front_on, front_put, all_taken, begun}
-use Rattle.xb_base.proofs.PrefixLemmas.{prefix_cmp_total}
+use Rattle.xb_io.specs.Causes.{Rose, TookFront}
+use Rattle.xb_io.specs.Pages.{Gathered}
+use Rattle.xb_values.specs.Prefixes.{Prefix, Sections, prefix_cmp}
+use Rattle.xb_io.proofs.PageLemmas.{joined_on, front_on, front_put, all_taken, begun}
+use Rattle.xb_values.proofs.PrefixLemmas.{prefix_cmp_total}
 use Rattle.xbgp_top.specs.declared.status.Status.{Status}
 use Rattle.xbgp_top.specs.Answers.{answered, heard_line, table_lines}
 use Rattle.xbgp_top.specs.Outputs.{Gathers, Stops, Writes}

@@ -1,10 +1,10 @@
 -- How the parts of a run make its answer.
 use Rattle.std.proofs.Common.{◌≡◌, ◌≢◌, ◌⊎◌, ℕ, ◌<◌, ◌≤◌, Bool, true, false, if◌then◌else◌, nat_lt, List, [], length, Option, Some, None, Ok, Err, flat_map, IfSome, IsNone, IsSomeAnd, MatchOption, refl, sym, ◌∙◌, ap, subst, inl, inr, arith}
 use Rattle.std.proofs.lemmas.Bool.{lt-ltb, le-ltb}
-use Rattle.xb_base.specs.Causes.{Files, file_named, Rose, IsMissing, TookFront}
-use Rattle.xb_base.specs.Texts.{line}
+use Rattle.xb_io.specs.Causes.{Files, file_named, Rose, IsMissing, TookFront}
+use Rattle.xb_values.specs.Texts.{line}
 use Rattle.bpf_insn.specs.Loading.{load_fault}
-use Rattle.xb_base.proofs.PageLemmas.{and_then-nil}
+use Rattle.xb_io.proofs.PageLemmas.{and_then-nil}
 use Rattle.bgp_update.specs.Heard.{heard}
 use Rattle.std.specs.Option.{option_map}
 use Rattle.xbgp_top.specs.declared.input.Unread.{Unread}

@@ -1,9 +1,9 @@
 -- The answer to the words of a command line: a status and a text, from the files that are held (this project's own).
 use Rattle.std.specs.Prelude.{ℕ, Bool, false, List, [], ◌∷◌, ◌++◌, length, map, flat_map, ◌==◌, Option, Some, None, Result, Ok, Err, codes, decimal, nat_lt, if◌then◌else◌}
-use Rattle.xb_base.specs.Causes.{Files, file_named}
-use Rattle.xb_base.specs.Prefixes.{Prefix, Sections}
-use Rattle.xb_base.specs.Texts.{line, prefix_text, hex_text}
-use Rattle.xb_base.specs.Messages.{split}
+use Rattle.xb_io.specs.Causes.{Files, file_named}
+use Rattle.xb_values.specs.Prefixes.{Prefix, Sections}
+use Rattle.xb_values.specs.Texts.{line, prefix_text, hex_text}
+use Rattle.xb_wire.specs.Messages.{split}
 use Rattle.bgp_update.specs.Heard.{heard}
 use Rattle.bgp_update.specs.Walks.{Found, found}
 use Rattle.bgp_check.specs.Judgement.{judge}

@@ -1,6 +1,6 @@
 -- What was read of an input.
 use Rattle.std.specs.Prelude.{◌≡◌, ◌⊎◌, ℕ, ◌<◌, ◌≤◌, List, [], length, take, Option, Some, None, MatchOption}
-use Rattle.xb_base.specs.Causes.{Files, file_named, Rose, IsMissing}
+use Rattle.xb_io.specs.Causes.{Files, file_named, Rose, IsMissing}
 use Rattle.xbgp_top.specs.Answers.{input_limit}
 use Rattle.xbgp_top.specs.declared.input.Unread.{Unread}
 use Rattle.xbgp_top.specs.declared.input.Unread.TheVariants.{Long, Fault, OutOfMemory}

@@ -1,7 +1,7 @@
 -- How a text goes to a sink, and what the status says of it.
 use Rattle.std.specs.Prelude.{◌≡◌, ◌≢◌, ◌⊎◌, ℕ, ◌≤◌, List, [], ◌++◌, Option, Result, Ok, Err}
-use Rattle.xb_base.specs.Causes.{Rose, TookFront, and_then}
-use Rattle.xb_base.specs.Pages.{Gathered}
+use Rattle.xb_io.specs.Causes.{Rose, TookFront, and_then}
+use Rattle.xb_io.specs.Pages.{Gathered}
 use Rattle.xbgp_top.specs.Answers.{Answer, long_answer}
 use Rattle.xbgp_top.specs.declared.input.Unread.{Unread}
 use Rattle.xbgp_top.specs.declared.input.Unread.TheVariants as reasons

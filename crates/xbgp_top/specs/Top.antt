@@ -1,7 +1,7 @@
 -- Which answer the top call gives, and when.
 use Rattle.std.specs.Prelude.{◌≡◌, ◌≢◌, ◌⊎◌, ℕ, ◌≤◌, List, Option, Some, None, IfSome, IsSomeAnd}
 use Rattle.std.specs.Option.{option_map}
-use Rattle.xb_base.specs.Causes.{Files, Rose, TookFront, and_then}
+use Rattle.xb_io.specs.Causes.{Files, Rose, TookFront, and_then}
 use Rattle.xbgp_top.specs.declared.status.Status.{Status}
 use Rattle.xbgp_top.specs.declared.status.Status.TheVariants.{Usage, ReadFault, WriteFault, OutOfMemory}
 use Rattle.xbgp_top.specs.Answers.{Answer, answer, command_answer, usage_answer}

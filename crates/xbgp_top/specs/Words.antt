@@ -1,9 +1,9 @@
 -- The words in which faults are printed (this project's own).
 use Rattle.std.specs.Prelude.{ℕ, List, codes}
-use Rattle.xb_base.specs.declared.bad.BadKind.{BadKind}
-use Rattle.xb_base.specs.declared.bad.BadKind.TheVariants as kinds
-use Rattle.xb_base.specs.declared.bad.Part.{Part}
-use Rattle.xb_base.specs.declared.bad.Part.TheVariants as parts
+use Rattle.xb_domain.specs.declared.bad.BadKind.{BadKind}
+use Rattle.xb_domain.specs.declared.bad.BadKind.TheVariants as kinds
+use Rattle.xb_domain.specs.declared.bad.Part.{Part}
+use Rattle.xb_domain.specs.declared.bad.Part.TheVariants as parts
 use Rattle.bpf_insn.specs.declared.fault.LoadKind.{LoadKind}
 use Rattle.xbgp_manifest.specs.Manifests.{kind_of}
 use Rattle.bpf_machine.specs.declared.world.Cause.{Cause}

@@ -1,7 +1,7 @@
 ghost use Rattle.std.specs.Prelude.{◌≡◌, ◌≢◌, ◌+◌, ◌≤◌, ◌++◌, ◌∷◌, [], length, codes, decimal, Some, IfOk};
 ghost use Rattle.std.specs.Option.{option_map};
 ghost use Rattle.std.specs.Str.{bytes_eq};
-ghost use Rattle.xb_base.specs.Texts.{spaced};
+ghost use Rattle.xb_values.specs.Texts.{spaced};
 ghost use Rattle.xbgp_config.specs.Configs.{config};
 ghost use Rattle.xbgp_manifest.specs.Manifests.{manifest, no_manifest};
 ghost use Rattle.xbgp_top.specs.Answers.{bad_config, bad_manifest, count_line, counts, given_config, given_manifest, with_manifest};
@@ -15,7 +15,9 @@ use crate::output::{not_read, say};
 use crate::word::{kind_word, part_word};
 use crate::{File, Status};
 use std::alloc::{AllocError, Global};
-use xb_base::{BadKind, Buf, Part, Shelf, Sink, push_decimal};
+use xb_domain::{BadKind, Part};
+use xb_io::{Shelf, Sink};
+use xb_values::{Buf, push_decimal};
 use xbgp_config::{Config, ConfigError, ConfigFault, read_config};
 use xbgp_manifest::{Manifest, ManifestError, ManifestFault, read_manifest};
 

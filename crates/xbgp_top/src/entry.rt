@@ -1,5 +1,5 @@
 ghost use Rattle.std.specs.Prelude.{◌≡◌, ◌≢◌, ◌≤◌, ◌⊎◌, Some, map, string_bytes};
-ghost use Rattle.xb_base.specs.Causes.{Files, Rose, TookFront};
+ghost use Rattle.xb_io.specs.Causes.{Files, Rose, TookFront};
 ghost use Rattle.xbgp_top.specs.Answers.{answer, job_answer};
 ghost use Rattle.xbgp_top.specs.Commands.{command_of, on_file};
 ghost use Rattle.xbgp_top.specs.Outputs.{Writes};
@@ -14,7 +14,7 @@ use crate::judge::print_judged;
 use crate::output::{not_read, say};
 use crate::{File, Status};
 use std::alloc::Global;
-use xb_base::{Shelf, Sink};
+use xb_io::{Shelf, Sink};
 
 // Answers what is asked about octets that were read.
 fn print_job<K: Sink>(alloc: Global, job: Job, octets: &[u8], sink: &mut K) -> Status

@@ -1,5 +1,5 @@
 ghost use Rattle.std.specs.Prelude.{◌≡◌, ◌++◌, ◌∷◌, [], codes, decimal, false, None, IfOk};
-ghost use Rattle.xb_base.specs.Texts.{line as line_of};
+ghost use Rattle.xb_values.specs.Texts.{line as line_of};
 ghost use Rattle.bpf_insn.specs.Loading.{load_fault};
 ghost use Rattle.xbgp_top.specs.Answers.{alone, answered, bad_code, end_line, end_words, exec_answer, no_help, no_helper};
 ghost use Rattle.xbgp_top.specs.Outputs.{Writes};
@@ -11,7 +11,8 @@ use bpf_insn::{Code, HelperSet, LoadError, LoadFault, load};
 use bpf_machine::{Called, End, Helpers, run};
 use bpf_mem::{Memory, Room};
 use std::alloc::{AllocError, Global};
-use xb_base::{Buf, Sink, push_decimal};
+use xb_io::Sink;
+use xb_values::{Buf, push_decimal};
 
 // How many instructions may run.
 const FUEL: u32 = 1_000_000;

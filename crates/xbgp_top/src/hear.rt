@@ -6,7 +6,8 @@ use crate::Status;
 use crate::output::{LINE, PAGE, begin_line, gather_text, refuse_stream, say};
 use heard_table::{HeardError, Table, heard};
 use std::alloc::{AllocError, Global};
-use xb_base::{Buf, Prefix, Sink, push_hex, push_prefix};
+use xb_io::Sink;
+use xb_values::{Buf, Prefix, push_hex, push_prefix};
 
 // Writes the line of a prefix and its section.
 fn write_entry(

@@ -2,7 +2,7 @@ ghost use Rattle.std.specs.Prelude.{◌≡◌, ◌<◌, length, IfErr, IfOk, OnO
 ghost use Rattle.xbgp_top.specs.Inputs.{IsUnread, IsWhole};
 
 use std::alloc::{AllocError, Global};
-use xb_base::Shelf;
+use xb_io::Shelf;
 
 const INPUT_LIMIT: usize = 1_048_576;
 

@@ -1,5 +1,5 @@
 ghost use Rattle.std.specs.Prelude.{◌≡◌, ◌≤◌, ◌++◌, ◌∷◌, [], codes, decimal, flat_map, length, OnOk};
-ghost use Rattle.xb_base.specs.Texts.{hex_text, line as line_of};
+ghost use Rattle.xb_values.specs.Texts.{hex_text, line as line_of};
 ghost use Rattle.xbgp_top.specs.Answers.{answered, end_line, judge_answer, judge_line, messages_of, place_of_rest};
 ghost use Rattle.xbgp_top.specs.Outputs.{Gathers, Writes};
 ghost use Rattle.xbgp_top.specs.Met.{met};
@@ -9,7 +9,9 @@ use crate::output::{LINE, PAGE, begin_line, gather_text, refuse_stream, say};
 use bgp_check::check_update;
 use bgp_update::{Messages, Msg};
 use std::alloc::{AllocError, Global};
-use xb_base::{Buf, Notice, Sink, push_decimal, push_hex};
+use xb_io::Sink;
+use xb_values::{Buf, push_decimal, push_hex};
+use xb_wire::Notice;
 
 const UPDATE: u8 = 2;
 

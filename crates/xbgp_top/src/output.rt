@@ -5,7 +5,8 @@ ghost use Rattle.xbgp_top.specs.Outputs.{Gathers, Stopped, Writes};
 use crate::input::Unread;
 use crate::{File, Status};
 use std::alloc::{AllocError, Global};
-use xb_base::{Buf, Sink, gather, push_decimal};
+use xb_io::{Sink, gather};
+use xb_values::{Buf, push_decimal};
 
 /// How many octets go to the sink at once.
 pub(crate) const PAGE: usize = 65_536;

@@ -3,7 +3,7 @@ ghost use Rattle.xbgp_top.specs.Words.{cause_word, kind_word, load_word, part_wo
 
 use bpf_insn::LoadKind;
 use bpf_machine::Cause;
-use xb_base::{BadKind, Part};
+use xb_domain::{BadKind, Part};
 use xbgp_manifest::kind_of;
 
 /// The word for what is wrong with a configuration or a manifest.

@@ -2,7 +2,7 @@ ghost use Rattle.std.specs.Prelude.{◌≡◌, ℕ, ◌≤◌, ◌+◌, [], leng
 ghost use Rattle.std.specs.Bool.{OnFalse};
 ghost use Rattle.bgp_attr.specs.Routes.{attribute_at, canon, route_of, with_attribute, without_attribute};
 ghost use Rattle.xbgp_view.specs.Sections.{entry_octets, IsCanonical};
-ghost use Rattle.xb_base.specs.Buffers.{Appends};
+ghost use Rattle.xb_values.specs.Buffers.{Appends};
 
 use crate::RouteView;
 use crate::find::{attribute_in, code_in, gap_at};
@@ -10,7 +10,7 @@ use crate::spell::{append, kept_flags, push_attribute, spelled_len};
 use std::alloc::{AllocError, Global};
 use std::marker::Model;
 use std::mem;
-use xb_base::Buf;
+use xb_values::Buf;
 
 // The most octets that a canonical section may have.
 const ROOM: usize = 4112;

@@ -2,7 +2,7 @@ ghost use Rattle.std.specs.Prelude.{◌≡◌, ℕ, ◌+◌, ◌<◌, ◌≤◌,
 ghost use Rattle.xb_words.specs.Octets.{two_octets};
 ghost use Rattle.bgp_attr.specs.Routes.{canonical, kept_flags};
 
-use xb_base::Buf;
+use xb_values::Buf;
 
 // The flags that a route keeps: optional, transitive, partial (RFC 4271, section 4.3).
 const KEPT_FLAGS: u8 = 0xe0;

@@ -1,6 +1,6 @@
 use crate::{Overlay, RouteView};
 use std::test::Fail;
-use xb_base::Buf;
+use xb_values::Buf;
 
 #[test]
 fn a_route_is_edited(rt: HostRuntime) -> Result<(), Fail> {

@@ -1,5 +1,5 @@
 use Rattle.std.proofs.Common.{◌≡◌, length}
-use Rattle.xb_base.specs.Prefixes.{are_prefixes}
+use Rattle.xb_values.specs.Prefixes.{are_prefixes}
 use Rattle.bgp_check.proofs.Steps.{all_whole}
 use Rattle.bgp_check.proofs.update.are_prefixes.Given as goal
 

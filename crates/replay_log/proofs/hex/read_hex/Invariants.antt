@@ -1,5 +1,5 @@
 use Rattle.std.proofs.Common.{◌≡◌, ◌+◌, ◌*◌, length}
-use Rattle.xb_base.specs.Readers.{read_hex}
+use Rattle.xb_values.specs.Readers.{read_hex}
 use Rattle.replay_log.proofs.HexLemmas.{behind}
 use Rattle.replay_log.proofs.hex.read_hex.Given as goal
 

@@ -1,6 +1,6 @@
 use Rattle.std.proofs.Common.{◌≡◌, ◌∙◌, sym, true, codes, Some, None}
 use Rattle.std.specs.Str.{bytes_eq}
-use Rattle.xb_base.specs.Actors.{event_of, octets}
+use Rattle.xb_domain.specs.Actors.{event_of, octets}
 use Rattle.replay_log.proofs.LineLemmas.{line_said, line_lone, line_in, line_empty, line_blank}
 use Rattle.replay_log.proofs.line.read_line.Goals as goal
 use Rattle.replay_log.proofs.line.read_line.Goals.{then-is_empty-via-then-is_empty, then-is_empty-via-else-is_empty+then-line-eq35}

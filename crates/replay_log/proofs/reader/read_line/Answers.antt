@@ -1,6 +1,6 @@
 use Rattle.std.proofs.Common.{◌≡◌, ◌+◌, ◌<◌, length, Option, Some, ◌∙◌, sym, ap, arith, length-append, refl}
-use Rattle.xb_base.specs.Buffers.{Buffer}
-use Rattle.xb_base.specs.Causes.{Files, told_text}
+use Rattle.xb_values.specs.Buffers.{Buffer}
+use Rattle.xb_io.specs.Causes.{Files, told_text}
 use Rattle.replay_log.proofs.ReadingLemmas.{left_at, left_first, left_none, left_last, left_long, left_line_end, left_unpushed, left_pushed}
 use Rattle.replay_log.proofs.reader.read_line.Goals as goal
 

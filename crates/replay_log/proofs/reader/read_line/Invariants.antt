@@ -1,5 +1,5 @@
 use Rattle.std.proofs.Common.{◌≡◌, ℕ, ◌+◌, ◌-◌, ◌≤◌, List, length, Some}
-use Rattle.xb_base.specs.Causes.{told_text}
+use Rattle.xb_io.specs.Causes.{told_text}
 use Rattle.replay_log.specs.Readings.{next_at}
 use Rattle.replay_log.proofs.ReadingLemmas.{left_at}
 use Rattle.replay_log.proofs.reader.read_line.Given as goal

@@ -2,7 +2,7 @@ use Rattle.std.proofs.Common.{◌≡◌, ◌+◌, map, drop}
 use Rattle.std.specs.BTreeSet.{contains}
 use Rattle.std.specs.List.{list_any}
 use Rattle.toml.specs.View.{view}
-use Rattle.xb_base.specs.Prefixes.{Prefix, prefix_cmp}
+use Rattle.xb_values.specs.Prefixes.{Prefix, prefix_cmp}
 use Rattle.xb_fields.specs.Fields.{entries, entries_from}
 use Rattle.xbgp_config.specs.Configs.{network_entry, same_prefix}
 use Rattle.xbgp_config.proofs.networks.read_networks.Given as goal

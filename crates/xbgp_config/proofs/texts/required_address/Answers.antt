@@ -1,6 +1,6 @@
 use Rattle.std.proofs.Common.{sym}
 use Rattle.toml.specs.View.{table_view}
-use Rattle.xb_base.specs.Readers.{read_dotted}
+use Rattle.xb_values.specs.Readers.{read_dotted}
 use Rattle.xb_fields.proofs.Texts.{text_read}
 use Rattle.xbgp_config.proofs.texts.required_address.Goals as goal
 

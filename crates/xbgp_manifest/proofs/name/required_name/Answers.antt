@@ -1,7 +1,7 @@
 use Rattle.std.proofs.Common.{sym, ap, ◌∙◌, codes, if◌then◌else◌}
 use Rattle.std.specs.Prelude.{Err, Some, None}
 use Rattle.toml.specs.View.{table_view}
-use Rattle.xb_base.specs.declared.bad.BadKind.TheVariants.{Range}
+use Rattle.xb_domain.specs.declared.bad.BadKind.TheVariants.{Range}
 use Rattle.xb_fields.specs.Fields.{found}
 use Rattle.xb_fields.proofs.Texts.{text_read}
 use Rattle.xbgp_manifest.specs.Manifests.{is_name, name_text}

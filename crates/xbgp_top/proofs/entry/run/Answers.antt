@@ -1,6 +1,6 @@
 use Rattle.std.proofs.Common.{map, inl, inr, ◌⊎◌}
 use Rattle.std.specs.Prelude.{string_bytes}
-use Rattle.xb_base.specs.Causes.{Rose}
+use Rattle.xb_io.specs.Causes.{Rose}
 use Rattle.xbgp_top.specs.Top.{SaysMissing}
 use Rattle.xbgp_top.proofs.TopLemmas.{told, says_missing}
 use Rattle.xbgp_top.proofs.entry.run.Goals as goal

@@ -1,7 +1,7 @@
 use Rattle.std.proofs.Common.{◌≡◌, ◌++◌, length}
 use Rattle.xb_words.specs.Table.{behind}
-use Rattle.xb_base.specs.Pages.{Gathered}
-use Rattle.xb_base.specs.Prefixes.{prefix_cmp}
+use Rattle.xb_io.specs.Pages.{Gathered}
+use Rattle.xb_values.specs.Prefixes.{prefix_cmp}
 use Rattle.xbgp_top.specs.Answers.{table_lines}
 use Rattle.xbgp_top.proofs.hear.gather_table.Given as goal
 

@@ -1,5 +1,5 @@
 use Rattle.std.proofs.Common.{◌≡◌, ◌++◌, length, flat_map}
-use Rattle.xb_base.specs.Pages.{Gathered}
+use Rattle.xb_io.specs.Pages.{Gathered}
 use Rattle.xbgp_top.specs.Answers.{judge_line, messages_of}
 use Rattle.xbgp_top.proofs.JudgeLemmas.{lines_of}
 use Rattle.xbgp_top.proofs.judge.gather_verdicts.Given as goal

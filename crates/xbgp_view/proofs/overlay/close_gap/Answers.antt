@@ -1,6 +1,6 @@
 use Rattle.std.proofs.Common.{◌++◌, ◌-◌, take, drop, ap, ◌∙◌, length}
 use Rattle.std.proofs.lemmas.List.{take_rest}
-use Rattle.xb_base.specs.Buffers.{Buffer}
+use Rattle.xb_values.specs.Buffers.{Buffer}
 use Rattle.bgp_attr.specs.Routes.{route_of, without_attribute}
 use Rattle.xbgp_view.proofs.Edits.{closed, closed_is, spelled_as}
 use Rattle.xbgp_view.proofs.overlay.close_gap.Goals as goal

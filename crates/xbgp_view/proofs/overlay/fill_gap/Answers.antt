@@ -1,6 +1,6 @@
 use Rattle.std.proofs.Common.{◌-◌, ◌++◌, take, drop, ap, ◌∙◌, length, arith, append_assoc}
 use Rattle.std.proofs.lemmas.List.{take_rest, length-take-le, length-drop, length-append}
-use Rattle.xb_base.specs.Buffers.{Buffer}
+use Rattle.xb_values.specs.Buffers.{Buffer}
 use Rattle.bgp_attr.specs.Routes.{canonical, kept_flags, route_of, with_attribute}
 use Rattle.xbgp_view.proofs.Canonical.{long_value}
 use Rattle.xbgp_view.proofs.Edits.{filled, filled_is, filled_size, octets_of, spelled_as}

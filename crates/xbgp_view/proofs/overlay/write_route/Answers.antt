@@ -1,6 +1,6 @@
 use Rattle.std.proofs.Common.{refl, ◌+◌, ◌++◌, ◌∙◌, ap, sym, length, arith}
 use Rattle.std.proofs.lemmas.List.{length-append}
-use Rattle.xb_base.specs.Buffers.{Buffer}
+use Rattle.xb_values.specs.Buffers.{Buffer}
 use Rattle.bgp_attr.specs.Routes.{attribute_at, canon}
 use Rattle.xbgp_view.specs.Sections.{entry_octets, lower}
 use Rattle.xbgp_view.proofs.Edits.{spelled_as}

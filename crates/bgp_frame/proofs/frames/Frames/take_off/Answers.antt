@@ -1,5 +1,5 @@
 use Rattle.std.proofs.Common.{ap, ◌∙◌}
-use Rattle.xb_base.specs.Messages.{message_size}
+use Rattle.xb_wire.specs.Messages.{message_size}
 use Rattle.bgp_frame.specs.Waiting.{Waiting}
 use Rattle.bgp_frame.proofs.Headers.{kept_next, shown_next}
 use Rattle.bgp_frame.proofs.frames.Frames.take_off.Goals as goal

@@ -1,5 +1,5 @@
 use Rattle.std.proofs.Common.{ap, ◌∙◌}
-use Rattle.xb_base.specs.Buffers.{Buffer}
+use Rattle.xb_values.specs.Buffers.{Buffer}
 use Rattle.bgp_write.proofs.MessageLemmas.{is_message_along}
 use Rattle.bgp_write.proofs.PackingLemmas.{sealed_is, sealed_is_message}
 use Rattle.bgp_write.proofs.packer.Packer.finish.Goals as goal

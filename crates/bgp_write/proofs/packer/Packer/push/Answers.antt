@@ -1,5 +1,5 @@
 use Rattle.std.proofs.Common.{arith}
-use Rattle.xb_base.specs.Prefixes.{prefix_octets}
+use Rattle.xb_values.specs.Prefixes.{prefix_octets}
 use Rattle.bgp_write.proofs.PackingLemmas.{is_grown}
 use Rattle.bgp_write.proofs.packer.Packer.push.Goals as goal
 

@@ -1,6 +1,0 @@
-use Rattle.std.proofs.Common.{◌<◌, length}
-use Rattle.frames_bench.proofs.count_messages.Given as goal
-
--- there is room for an octet
-abbrev pub invariant-times : goal.invariant-times
-invariant-times l = length l.frames.waits < 8192

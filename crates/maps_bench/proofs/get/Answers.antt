@@ -1,8 +1,0 @@
-use Rattle.std.proofs.Common.{◌≡◌, length, rules}
-use Rattle.xbgp_maps.proofs.Shapes.{fits}
-use Rattle.maps_bench.proofs.get.Goals as goal
-
-pub get-requires-clause-key : goal.get-requires-clause-key
-get-requires-clause-key c =
-    let width : length c.key_of.result ≡ 8 = search rules in
-    rw width (fits c.args.bench.now.maps.maps (λ s. s.key) 8 c.args.bench.now.keys)

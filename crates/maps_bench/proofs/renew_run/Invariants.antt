@@ -1,5 +1,0 @@
-use Rattle.std.proofs.Common.{IsSome}
-use Rattle.maps_bench.proofs.renew_run.Given as goal
-
-abbrev pub invariant-writes : goal.invariant-writes
-invariant-writes l = IsSome l.bench.maps.began

@@ -1,5 +1,0 @@
-use Rattle.std.proofs.Common.{◌≡◌, None}
-use Rattle.maps_bench.proofs.write_all.Given as goal
-
-abbrev pub invariant-runs : goal.invariant-runs
-invariant-runs l = l.bench.maps.began ≡ None

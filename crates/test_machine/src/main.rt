@@ -1,0 +1,150 @@
+//! Runs each row of a table of instructions, by the word FILE, and prints the rows that end otherwise than they say, and how many there are.
+//!
+//! The table has each opcode of the profile with operands at the edges. bench/test_machine/rows.rs writes it, from the text
+//! of RFC 9669 and not from this repository's definitions; its head says what a line is. It stands on `bpf_machine`,
+//! `bpf_mem` and `bpf_insn`, and promises nothing beyond being safe.
+#![tactic(auto)]
+
+ghost use Rattle.std.specs.Prelude.{◌≡◌, ℕ, ◌<◌, ◌==◌, IfSome};
+ghost use Rattle.bpf_insn.specs.Helpers.{allows};
+
+use anyhow::{Context, Result};
+use bpf_insn::{HelperSet, load};
+use bpf_machine::{Called, Cause, End, Helpers, run};
+use bpf_mem::{Memory, Room};
+use std::alloc::Global;
+use std::rt::Files;
+use std::{env, fs};
+
+/// Helper 1 adds r1 and r2.
+#[derive(Drop)]
+struct Sums;
+
+impl Helpers for Sums {
+    ghost use Rattle.std.specs.Prelude.{ℕ, ◌+◌, ◌%◌, ◌^◌, ◌==◌, slice_index};
+    ghost use Rattle.bpf_machine.specs.Running.{Answered};
+    ghost use Rattle.bpf_machine.specs.declared.world.Called.TheVariants.{Value};
+
+    ghost State = { Unit {0} };
+
+    ghost state = { λ _. tt };
+
+    ghost allowed = { λ _ n. n == 1 };
+
+    ghost helps = { λ n args memory world. record { called = Value ((slice_index args 0 + slice_index args 1) % 2 ^ 64); memory = memory; world = world } };
+
+    fn call(&mut self, _number: u32, args: [u64; 5], _memory: &mut Memory<'_>) -> Called {
+        Called::Value(args[0].wrapping_add(args[1]))
+    }
+}
+
+/// The helpers that a world of sums has.
+fn helpers() -> HelperSet
+    ensures { (n : ℕ) → allows result n ≡ (n == 1) }
+{
+    HelperSet::none().with(1)
+}
+
+/// The value of a hexadecimal digit.
+fn digit(octet: u8) -> Option<u8>
+    ensures { IfSome result (λ d. d < 16) }
+{
+    match octet {
+        b'0'..=b'9' => Some(octet - b'0'),
+        b'a'..=b'f' => Some(octet - b'a' + 10),
+        _ => None,
+    }
+}
+
+/// The number that a text of hexadecimal digits is.
+fn number(text: &str) -> Option<u64> {
+    let mut sum: u64 = 0;
+    for octet in text.as_bytes() {
+        sum = sum.checked_mul(16)?.checked_add(u64::from(digit(*octet)?))?;
+    }
+    Some(sum)
+}
+
+/// The octet of two hexadecimal digits.
+fn octet_of(high: u8, low: u8) -> Option<u8> {
+    Some(digit(high)? * 16 + digit(low)?)
+}
+
+/// Appends the octets that a text of hexadecimal digits is.
+fn push_octets(code: &mut Vec<u8>, text: &str) -> Result<()> {
+    for pair in text.as_bytes().chunks(2) {
+        let [high, low] = pair else {
+            anyhow::bail!("half an octet");
+        };
+        code.push(octet_of(*high, *low).context("no digit")?)?;
+    }
+    Ok(())
+}
+
+/// Appends a 64-bit load into a register.
+fn push_wide(code: &mut Vec<u8>, register: u8, value: u64) -> Result<()> {
+    let v = value.to_le_bytes();
+    let slots = [
+        0x18, register, 0, 0, v[0], v[1], v[2], v[3], 0, 0, 0, 0, v[4], v[5], v[6], v[7],
+    ];
+    code.extend_from_slice(&slots)?;
+    Ok(())
+}
+
+/// How the slots of a row end behind the loads of r0 and r2.
+fn ran(alloc: Global, room: &mut Room, slots: &[u8], x: u64, y: u64) -> Result<End> {
+    let mut octets = Vec::new(alloc);
+    push_wide(&mut octets, 0, x)?;
+    push_wide(&mut octets, 2, y)?;
+    octets.extend_from_slice(slots)?;
+    let code = load(alloc, &octets, &helpers())?;
+    let mut memory = Memory::over(room, b"window");
+    Ok(run(&code, &mut memory, &mut Sums, 100))
+}
+
+/// What a row says of its end.
+fn wanted(text: &str) -> Option<End> {
+    if text == "fault" {
+        Some(End::Failed(Cause::Memory))
+    } else {
+        Some(End::Exit(number(text)?))
+    }
+}
+
+fn try_rows(rt: &(impl Files + Print + AllocGlobal), name: &str) -> Result<()> {
+    let text = fs::read_to_string(rt, name)?;
+    let mut room = Room::make(rt.alloc())?;
+    let (mut rows, mut wrong) = (0_u32, 0_u32);
+    let mut slots = Vec::new(rt.alloc());
+    for line in text.lines() {
+        let words: Vec<&str> = line.split(' ').collect(rt.alloc())?;
+        match words.as_slice() {
+            ["code", octets, _name] => {
+                slots.clear();
+                push_octets(&mut slots, octets)?;
+            }
+            [x, y, want] => {
+                let x = number(x).context("no number")?;
+                let y = number(y).context("no number")?;
+                let want = wanted(want).context("no end")?;
+                let end = ran(rt.alloc(), &mut room, &slots, x, y)?;
+                rows = rows.saturating_add(1);
+                if end != want {
+                    wrong = wrong.saturating_add(1);
+                    println!(rt; "{slots:?} at {line}: {end:?}")?;
+                }
+            }
+            _ => anyhow::bail!("a line that isn't one: {line}"),
+        }
+    }
+    println!(rt; "{rows} rows, {wrong} wrong")?;
+    Ok(())
+}
+
+fn main(rt: HostRuntime) -> Result<()> {
+    let words: Vec<String> = env::args(&rt)?.skip(1).collect(rt.alloc())?;
+    match words.as_slice() {
+        [name] => try_rows(&rt, name.as_str()),
+        _ => anyhow::bail!("the word is FILE"),
+    }
+}

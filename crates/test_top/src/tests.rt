@@ -1,0 +1,88 @@
+mod bytecode;
+mod memory;
+mod refusals;
+mod streams;
+mod texts;
+
+use std::alloc::Global;
+use std::process::Abort;
+use std::test::Fail;
+use xb_io::{MemShelf, MemSink};
+use xbgp_top::{Status, run};
+
+// The attributes of a route by AS 65001 with next hop 192.0.2.1.
+const ROUTE: [u8; 18] = [
+    0x40, 1, 1, 0, 0x40, 2, 4, 2, 1, 0xfd, 0xe9, 0x40, 3, 4, 192, 0, 2, 1,
+];
+
+const ROUTE_TEXT: &str = "400101004002040201fde9400304c0000201";
+
+// A message whose length field counts all of it.
+fn message(alloc: Global, kind: u8, body: &[u8]) -> Result<Vec<u8>, Fail> {
+    let mut octets = vec![in alloc; 255u8; 16]?;
+    let len = u16::try_from(body.len() + 19).ok().ok_or("long")?;
+    octets.extend_from_slice(&len.to_be_bytes())?;
+    octets.push(kind)?;
+    octets.extend_from_slice(body)?;
+    Ok(octets)
+}
+
+// An UPDATE that announces prefixes with that route.
+fn update(alloc: Global, nlri: &[u8]) -> Result<Vec<u8>, Fail> {
+    let mut body = Vec::from_slice(alloc, &[0, 0, 0, 18])?;
+    body.extend_from_slice(&ROUTE)?;
+    body.extend_from_slice(nlri)?;
+    message(alloc, 2, &body)
+}
+
+fn zeros(alloc: Global, count: usize) -> Result<Vec<u8>, Fail> {
+    Ok(vec![in alloc; 0u8; count]?)
+}
+
+// What words answer over a shelf that holds octets as `x` and a manifest as `m`, and what is written; the sink fails at a call, or
+// never at 0.
+fn answer(
+    alloc: Global,
+    words: &[&str],
+    octets: &[u8],
+    manifest: &[u8],
+    failing: u64,
+) -> Result<(Status, Vec<u8>), Fail> {
+    let mut shelf = MemShelf::make(alloc)?;
+    shelf.add("x", octets)?;
+    shelf.add("m", manifest)?;
+    let mut sink = MemSink::make(alloc, 1000)?;
+    sink.fail_at(failing)?;
+    let mut owned = Vec::new(alloc);
+    for word in words {
+        owned.push(String::from_str(alloc, word)?)?;
+    }
+    let status = run(alloc, &owned, &mut shelf, &mut sink);
+    Ok((status, Vec::from_slice(alloc, sink.taken())?))
+}
+
+// Words over `x` and `m` have this status and write this text.
+fn expect_with(
+    rt: &(impl AllocGlobal + Abort),
+    words: &[&str],
+    octets: &[u8],
+    manifest: &[u8],
+    status: Status,
+    text: &str,
+) -> Result<(), Fail> {
+    let (got, written) = answer(rt.alloc(), words, octets, manifest, 0)?;
+    assert_eq!(rt; got, status, "for {text}");
+    assert_eq!(rt; written.as_slice(), text.as_bytes());
+    Ok(())
+}
+
+// The same without a manifest.
+fn expect(
+    rt: &(impl AllocGlobal + Abort),
+    words: &[&str],
+    octets: &[u8],
+    status: Status,
+    text: &str,
+) -> Result<(), Fail> {
+    expect_with(rt, words, octets, b"", status, text)
+}

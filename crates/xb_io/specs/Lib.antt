@@ -1,0 +1,4 @@
+pub mod Causes
+pub mod Memories
+pub mod Entries
+pub mod Pages

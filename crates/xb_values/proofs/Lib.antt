@@ -1,0 +1,4 @@
+pub mod BufferLemmas
+pub mod PrefixLemmas
+pub mod ReaderLemmas
+pub mod TextLemmas

@@ -1,0 +1,33 @@
+-- An address that was cleared stays as it is.
+use Rattle.std.proofs.Common.{inl, inr, [], ◌∷◌, length, Some, None, ◌&&◌, nat_le, ◌≡◌, ℕ, ◌+◌, ◌-◌, ◌*◌, ◌/◌, ◌^◌, ◌<◌, ◌≤◌, ap, arith}
+use Rattle.std.proofs.lemmas.Nat.{pow_pos}
+use Rattle.std.proofs.Math.Nat.{mul-div_cancel, div-mul-le_self}
+use Rattle.std.proofs.lemmas.Bool.{cases_Bool, and_parts, leb-true}
+use Rattle.std.specs.Cmp.{IsTotalOrder}
+use Rattle.std.proofs.lemmas.Cmp.{on_total, then_total, nat_cmp_total}
+use Rattle.xb_words.specs.Cut.{IsSize}
+use Rattle.xb_values.specs.Prefixes.{prefix_of, prefix_cmp, IsPrefix, octets_for, prefix_size}
+
+again : (a s : ℕ) → 0 < s → a / s * s / s * s ≡ a / s * s
+again a s h = ap (λ (q : ℕ). q * s) (mul-div_cancel (a / s) h)
+
+pub prefix_is_one : (addr len : ℕ) → addr < 2 ^ 32 → len ≤ 32 → IsPrefix (prefix_of addr len)
+prefix_is_one addr len word short =
+    record { len = short; addr = omega (arith, div-mul-le_self addr (2 ^ (32 - len))); clear = again addr (2 ^ (32 - len)) (pow_pos (32 - len)) }
+
+-- a prefix has at least its length, and does not pass the end
+pub prefix_is_size : IsSize prefix_size
+prefix_is_size [] n e = cc
+prefix_is_size (len ∷ rest) n e =
+    elim (cases_Bool (nat_le len 32 && nat_le (octets_for len) (length rest))) [
+      | inl fits ↦
+          let size : Some (1 + octets_for len) ≡ Some n = rw fits at e in
+          let n_is : 1 + octets_for len ≡ n = cc size in
+          let here : octets_for len ≤ length rest = leb-true (octets_for len) (length rest) (and_parts _ _ fits).1 in
+          (omega (arith, n_is), omega (arith, n_is, here))
+      | inr short ↦ let none : None ≡ Some n = rw short at e in cc none
+    ]
+
+-- the order of prefixes is total
+pub prefix_cmp_total : IsTotalOrder prefix_cmp
+prefix_cmp_total = then_total (on_total (λ p. p.addr) nat_cmp_total) (on_total (λ p. p.len) nat_cmp_total)

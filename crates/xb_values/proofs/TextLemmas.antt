@@ -1,0 +1,33 @@
+-- How long texts are.
+use Rattle.std.proofs.Common.{◌≡◌, ℕ, ◌+◌, ◌*◌, ◌<◌, List, [], ◌∷◌, length, flat_map, refl, arith, lit<, length-append, ◌/◌, ◌%◌, ◌^◌, ◌≤◌}
+use Rattle.std.specs.Prelude.{decimal}
+use Rattle.std.proofs.lemmas.Fmt.{length-decimal-le}
+use Rattle.xb_values.specs.Prefixes.{Prefix, IsPrefix}
+use Rattle.xb_values.specs.Texts.{hex_octet, hex_text, prefix_text}
+
+octets_length : (octets : List ℕ) → length (flat_map hex_octet octets) ≡ 2 * length octets
+octets_length [] = refl
+octets_length (b ∷ octets) = omega (arith, octets_length octets)
+
+pub hex_by_octets : (octets : List ℕ) → 0 < length octets → (length (hex_text octets) ≡ 2 * length octets) × (hex_text octets ≡ flat_map hex_octet octets)
+hex_by_octets [] some = absurd (omega arith)
+hex_by_octets (b ∷ octets) some = (octets_length (b ∷ octets), refl)
+
+pub hex_short : (octets : List ℕ) → length (hex_text octets) ≤ 2 * length octets + 1
+hex_short [] = omega arith
+hex_short (b ∷ octets) = omega (arith, octets_length (b ∷ octets))
+
+pub decimal_short : (n : ℕ) → n < 2 ^ 64 → length (decimal n) ≤ 20
+decimal_short n word = length-decimal-le 20 n (lit< tt) (omega arith) word
+
+octet_short : (n : ℕ) → n < 256 → length (decimal n) ≤ 3
+octet_short n small = length-decimal-le 3 n (lit< tt) (omega arith) (omega arith)
+
+pub prefix_short : (p : Prefix) → IsPrefix p → length (prefix_text p) ≤ 18
+prefix_short p is =
+    let a = octet_short (p.addr / 256 ^ 3 % 256) (omega arith) in
+    let b = octet_short (p.addr / 256 ^ 2 % 256) (omega arith) in
+    let c = octet_short (p.addr / 256 ^ 1 % 256) (omega arith) in
+    let d = octet_short (p.addr % 256) (omega arith) in
+    let e = length-decimal-le 2 p.len (lit< tt) (omega arith) (omega (arith, is.len)) in
+    simp length-append (omega (arith, a, b, c, d, e))

@@ -1,0 +1,5 @@
+pub mod Prefixes
+pub mod Texts
+pub mod Readers
+pub mod Buffers
+pub mod Parts

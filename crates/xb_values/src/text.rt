@@ -1,0 +1,129 @@
+ghost use Rattle.std.specs.Prelude.{◌≡◌, ◌+◌, ◌*◌, ◌<◌, ◌≤◌, ◌++◌, length, flat_map, decimal};
+ghost use Rattle.xb_values.specs.Buffers.{Appends};
+ghost use Rattle.xb_values.specs.Parts.{joined};
+ghost use Rattle.xb_values.specs.Texts.{dotted, prefix_text, hex_digit, hex_octet, hex_text};
+
+use crate::{Buf, Prefix};
+use itoa::Buffer;
+
+/// Appends a number in decimal, or nothing where it does not fit.
+#[tactic(auto, using(crate::proofs::TextLemmas::decimal_short))]
+pub fn push_decimal(out: &mut Buf, value: u64) -> bool
+    ensures appends { Appends result out.old out.new (decimal value) }
+    ensures short { length (decimal value) ≤ 20 }
+{
+    let mut digits = Buffer::new();
+    out.push(digits.format(value).as_bytes())
+}
+
+/// Appends a number in decimal, for which there is room.
+#[tactic(auto, using(crate::proofs::TextLemmas::decimal_short))]
+pub fn append_decimal(out: &mut Buf, value: u64)
+    requires { length out.old.octets + 20 ≤ out.old.capacity }
+    ensures appended { out.new ≡ record out.old { octets = out.old.octets ++ decimal value } }
+    ensures short { length (decimal value) ≤ 20 }
+{
+    let _ = push_decimal(out, value);
+}
+
+// Appends all the parts in order, or nothing where they do not fit together.
+fn push_all(out: &mut Buf, parts: &[&[u8]]) -> bool
+    ensures { Appends result out.old out.new (joined parts.now) }
+{
+    let mut room = out.room();
+    for part in parts {
+        if part.len() > room {
+            return false;
+        }
+        room -= part.len();
+    }
+    for piece in parts {
+        let _ = out.push(piece);
+    }
+    true
+}
+
+/// Appends an address as four numbers joined by dots, or nothing where it does not fit.
+pub fn push_dotted(out: &mut Buf, addr: u32) -> bool
+    ensures { Appends result out.old out.new (dotted addr) }
+{
+    let [a, b, c, d] = addr.to_be_bytes();
+    let (mut first, mut second) = (Buffer::new(), Buffer::new());
+    let (mut third, mut fourth) = (Buffer::new(), Buffer::new());
+    let first = first.format(a).as_bytes();
+    let second = second.format(b).as_bytes();
+    let third = third.format(c).as_bytes();
+    let fourth = fourth.format(d).as_bytes();
+    push_all(out, &[first, b".", second, b".", third, b".", fourth])
+}
+
+/// Appends a prefix as its address, a slash and its length, or nothing where it does not fit.
+#[tactic(auto, using(crate::proofs::TextLemmas::prefix_short))]
+pub fn push_prefix(out: &mut Buf, prefix: Prefix) -> bool
+    ensures appends { Appends result out.old out.new (prefix_text prefix) }
+    ensures short { length (prefix_text prefix) ≤ 18 }
+{
+    let start = out.len();
+    if !push_dotted(out, prefix.addr()) {
+        return false;
+    }
+    let mut digits = Buffer::new();
+    let len = digits.format(prefix.len()).as_bytes();
+    let done = push_all(out, &[b"/", len]);
+    if !done {
+        out.truncate(start);
+    }
+    done
+}
+
+/// Appends a prefix as its address, a slash and its length, for which there is room.
+#[tactic(auto, using(crate::proofs::TextLemmas::prefix_short))]
+pub fn append_prefix(out: &mut Buf, prefix: Prefix)
+    requires { length out.old.octets + 18 ≤ out.old.capacity }
+    ensures appended { out.new ≡ record out.old { octets = out.old.octets ++ prefix_text prefix } }
+    ensures short { length (prefix_text prefix) ≤ 18 }
+{
+    let _ = push_prefix(out, prefix);
+}
+
+fn hex_digit_of(d: u8) -> u8
+    requires { d < 16 }
+    ensures { result ≡ hex_digit d }
+{
+    if d < 10 { b'0' + d } else { b'a' + (d - 10) }
+}
+
+// Appends two digits an octet, for which there is room.
+fn push_digits(out: &mut Buf, bytes: &[u8])
+    requires { length out.old.octets + 2 * length bytes.now ≤ out.old.capacity }
+    ensures { out.new ≡ record out.old { octets = out.old.octets ++ flat_map hex_octet bytes.now } }
+{
+    for byte in bytes {
+        let _ = out.push(&[hex_digit_of(*byte / 16), hex_digit_of(*byte % 16)]);
+    }
+}
+
+/// Appends two digits an octet, a dash for no octets, or nothing where it does not fit.
+#[tactic(auto, using(crate::proofs::TextLemmas::hex_by_octets, crate::proofs::TextLemmas::hex_short))]
+pub fn push_hex(out: &mut Buf, bytes: &[u8]) -> bool
+    ensures appends { Appends result out.old out.new (hex_text bytes.now) }
+    ensures short { length (hex_text bytes.now) ≤ 2 * length bytes.now + 1 }
+{
+    if bytes.is_empty() {
+        return out.push(b"-");
+    }
+    if bytes.len() > out.room() / 2 {
+        return false;
+    }
+    push_digits(out, bytes);
+    true
+}
+
+/// Appends two digits an octet, or a dash if there are no octets, for which there is room.
+pub fn append_hex(out: &mut Buf, bytes: &[u8])
+    requires { length out.old.octets + (2 * length bytes.now + 1) ≤ out.old.capacity }
+    ensures appended { out.new ≡ record out.old { octets = out.old.octets ++ hex_text bytes.now } }
+    ensures short { length (hex_text bytes.now) ≤ 2 * length bytes.now + 1 }
+{
+    let _ = push_hex(out, bytes);
+}

@@ -1,0 +1,87 @@
+//! The numbers of the wire, each with its name (RFC 4271, sections 4 and 6).
+
+/// Octets of a message header: a marker of 16, a length of 2, a type of 1 (section 4.1).
+pub const HEADER: usize = 19;
+
+/// The most octets of a message, its header included (section 4.1).
+pub const MAX_MESSAGE: usize = 4096;
+
+/// The most octets of a message's body: 4,096 - 19.
+pub const MAX_BODY: usize = MAX_MESSAGE - HEADER;
+
+/// The most octets of a NOTIFICATION's data: 4,096 less the header, the code and the subcode.
+pub const MAX_NOTICE_DATA: usize = MAX_MESSAGE - HEADER - 2;
+
+/// Octets of an UPDATE without prefixes and attributes: the header and its two length fields (section 4.3).
+pub const EMPTY_UPDATE: usize = HEADER + 4;
+
+/// The most octets of a section of path attributes beside which any prefix fits: 4,096 - 23 - 5.
+pub const MAX_SECTION: usize = MAX_MESSAGE - EMPTY_UPDATE - 5;
+
+/// The type of a message: OPEN (section 4.1).
+pub const OPEN: u8 = 1;
+
+/// The type of a message: UPDATE.
+pub const UPDATE: u8 = 2;
+
+/// The type of a message: NOTIFICATION.
+pub const NOTIFICATION: u8 = 3;
+
+/// The type of a message: KEEPALIVE.
+pub const KEEPALIVE: u8 = 4;
+
+/// An error code of a NOTIFICATION (section 4.5).
+pub const MESSAGE_HEADER_ERROR: u8 = 1;
+
+pub const OPEN_MESSAGE_ERROR: u8 = 2;
+
+pub const UPDATE_MESSAGE_ERROR: u8 = 3;
+
+pub const HOLD_TIMER_EXPIRED: u8 = 4;
+
+pub const FSM_ERROR: u8 = 5;
+
+pub const CEASE: u8 = 6;
+
+/// The subcode of an error that no subcode names (section 6.2).
+pub const UNSPECIFIC: u8 = 0;
+
+/// Subcodes of a message header error (section 6.1).
+pub const CONNECTION_NOT_SYNCHRONIZED: u8 = 1;
+
+pub const BAD_MESSAGE_LENGTH: u8 = 2;
+
+pub const BAD_MESSAGE_TYPE: u8 = 3;
+
+/// Subcodes of an OPEN message error (section 6.2).
+pub const UNSUPPORTED_VERSION_NUMBER: u8 = 1;
+
+pub const BAD_PEER_AS: u8 = 2;
+
+pub const BAD_BGP_IDENTIFIER: u8 = 3;
+
+pub const UNSUPPORTED_OPTIONAL_PARAMETER: u8 = 4;
+
+pub const UNACCEPTABLE_HOLD_TIME: u8 = 6;
+
+/// Subcodes of an UPDATE message error (section 6.3).
+pub const MALFORMED_ATTRIBUTE_LIST: u8 = 1;
+
+pub const UNRECOGNIZED_WELL_KNOWN_ATTRIBUTE: u8 = 2;
+
+pub const MISSING_WELL_KNOWN_ATTRIBUTE: u8 = 3;
+
+pub const ATTRIBUTE_FLAGS_ERROR: u8 = 4;
+
+pub const ATTRIBUTE_LENGTH_ERROR: u8 = 5;
+
+pub const INVALID_ORIGIN: u8 = 6;
+
+pub const INVALID_NEXT_HOP: u8 = 8;
+
+pub const INVALID_NETWORK_FIELD: u8 = 10;
+
+pub const MALFORMED_AS_PATH: u8 = 11;
+
+/// The version of BGP (section 4.2).
+pub const VERSION: u8 = 4;
