@@ -1,4 +1,4 @@
-//! A plain Rust program of the job of crates/frames_bench: frames the octets of a file 64 times over, in pieces of one
+//! A plain Rust program of the job of crates/bench_frames: frames the octets of a file 64 times over, in pieces of one
 //! size, and prints how many messages came. At most 8,192 octets wait.
 
 use std::env;

@@ -1,4 +1,4 @@
-//! Writes the rows that crates/machine_table tries, to standard output.
+//! Writes the rows that crates/test_machine tries, to standard output.
 //!
 //! The expected values are worked out here from the text of RFC 9669, in whole numbers with signs that are cut to their width
 //! at the end; nothing is shared with the machine. Section 4.1 has arithmetic, 4.2 the conversions, 4.3 jumps, 5 memory.
@@ -7,7 +7,7 @@
 //! A line `code HEX NAME` gives the slots that follow two 64-bit loads, which put X into r0 and Y into r2. The lines `X Y WANT`
 //! behind it say what r0 is at EXIT, in hexadecimal, or `fault` where a load or a store is outside memory.
 //!
-//! `bench/test_machine/run` shows that the table of crates/machine_table is the one that this program writes.
+//! `bench/test_machine/run` shows that the table of crates/test_machine is the one that this program writes.
 
 use std::io::{self, Write};
 
