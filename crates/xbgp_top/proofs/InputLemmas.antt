@@ -1,9 +1,19 @@
--- What was read, with one piece more.
-use Rattle.std.proofs.Common.{◌≡◌, ℕ, ◌+◌, List, [], ◌++◌, length, take, drop, Option, Some, None, MatchOption, Bool, true, if◌then◌else◌, sym, ◌∙◌, ap, subst, arith, length-append}
+-- Steps over a shelf: what was read, with one piece more, and one step after another.
+use Rattle.std.proofs.Common.{◌≡◌, ◌≢◌, ◌⊎◌, ℕ, ◌+◌, ◌<◌, ◌≤◌, List, [], ◌++◌, length, take, drop, Option, Some, None, MatchOption, Ok, Err, IsNone, Bool, true, false, nat_lt, if◌then◌else◌, refl, sym, ◌∙◌, ap, subst, inl, inr, arith, length-append}
+use Rattle.std.specs.Result.{IfErr}
+use Rattle.std.proofs.lemmas.Bool.{lt-ltb, le-ltb}
 use Rattle.std.proofs.lemmas.List.{length-take-le}
 use Rattle.std.proofs.Math.Seq.{take-add}
-use Rattle.xb_io.specs.Causes.{Files, file_named, Reads, ReadsPart}
-use Rattle.xbgp_top.specs.Inputs.{IsFront}
+use Rattle.xb_io.specs.Causes.{Files, file_named, Reads, ReadsPart, Rose, IsMissing}
+use Rattle.xbgp_top.specs.declared.input.TheConstants.{INPUT_LIMIT}
+use Rattle.xbgp_top.specs.declared.input.Unread.{Unread}
+use Rattle.xbgp_top.specs.declared.input.Unread.TheVariants.{Long, Fault}
+use Rattle.xbgp_top.specs.declared.input.Unread.TheVariants as reasons
+use Rattle.xbgp_top.specs.declared.status.File.{File}
+use Rattle.xbgp_top.specs.declared.status.Status.{Status}
+use Rattle.xbgp_top.specs.declared.status.Status.TheVariants.{ReadFault, WriteFault, Usage, OutOfMemory, TooLong}
+use Rattle.xbgp_top.specs.Answers.{Outcome, ◌>>=◌, input, within_limit}
+use Rattle.xbgp_top.specs.Inputs.{Gives, IsFront, IsLong, IsUnread, IsWhole, Obtains, unread_status}
 
 found_more : (found : Option (List ℕ)) (front buf : List ℕ) (n : ℕ)
     → MatchOption found (front ≡ []) (λ octets. front ≡ take (length front) octets)
@@ -16,14 +26,16 @@ found_more (Some octets) front buf n so_far reads =
     ap (λ (l : List ℕ). l ++ take n buf) so_far ∙ ap (λ (l : List ℕ). take (length front) octets ++ l) reads.part in
     joined ∙ sym (take-add (length front) n octets) ∙ ap (λ (k : ℕ). take k octets) (sym size)
 
-read_more : (held : Option Files) (name front buf : List ℕ) (n : ℕ) → IsFront held name front → Reads held name (length front) buf n → IsFront held name (front ++ take n buf)
+read_more : (held : Option Files) (name front buf : List ℕ) (n : ℕ)
+    → IsFront held name front → Reads held name (length front) buf n → IsFront held name (front ++ take n buf)
 read_more None name front buf n so_far reads = tt
 read_more (Some files) name front buf n so_far reads = found_more (file_named files name) front buf n so_far reads
 
-pub read_on : (held first : Option Files) (name front buf new : List ℕ) (n len : ℕ) (ok : Bool)
+-- one more piece makes a longer front
+pub IsFront-append : (held first : Option Files) (name front buf new : List ℕ) (n len : ℕ) (ok : Bool)
     → held ≡ first → len ≡ length front → IsFront first name front → Reads held name len buf n
     → ok ≡ true → new ≡ (if ok then front ++ take n buf else front) → IsFront first name new
-read_on held first name front buf new n len ok same len_is so_far reads is_ok new_is =
+IsFront-append held first name front buf new n len ok same len_is so_far reads is_ok new_is =
     let reads_then : Reads first name (length front) buf n =
     subst (λ (k : ℕ). Reads first name k buf n) len_is (subst (λ (h : Option Files). Reads h name len buf n) same reads) in
     let longer : new ≡ front ++ take n buf = rw is_ok at new_is in

@@ -6,12 +6,7 @@ use Rattle.std.proofs.Math.Dec.{eqb-suc-zero}
 use Rattle.xb_words.specs.Cut.{walk, walk_from, placed}
 use Rattle.xb_wire.specs.Messages.{split}
 use Rattle.bgp_update.specs.Walks.{Found, found, messages_from}
-use Rattle.xb_io.specs.Pages.{Gathered}
-use Rattle.xb_io.proofs.PageLemmas.{begun, joined_on}
-use Rattle.xbgp_top.specs.declared.status.Status.{Status}
-use Rattle.xbgp_top.specs.Outputs.{Stops}
-use Rattle.xbgp_top.proofs.OutputLemmas.{stops_behind}
-use Rattle.xbgp_top.specs.Answers.{judge_line, messages_of, place_of_rest}
+use Rattle.xbgp_top.specs.Answers.{judge_line, judge_lines, messages_of, rest_offset}
 
 -- where the walk is refused, if it is
 abbrev pub rest_of : List (Result Found ℕ) → Option ℕ
@@ -31,7 +26,7 @@ rest_of_walk at (m ∷ items) rest =
     let end : at + length m + length (concat items) ≡ at + length (m ++ concat items) = omega (arith, length-append m (concat items)) in
     rest_of_walk (at + length m) items rest ∙ ap (ends_at rest) end
 
-pub first_rest : (s : List ℕ) → rest_of (messages_from 0 s) ≡ place_of_rest s
+pub first_rest : (s : List ℕ) → rest_of (messages_from 0 s) ≡ rest_offset s
 unfolding walk_from
 first_rest s =
     let from : 0 + length (concat (split s).items) ≡ length (concat (split s).items) = omega arith in
@@ -48,21 +43,7 @@ lines_of_walk at [] [] = refl
 lines_of_walk at [] (b ∷ rest) = refl
 lines_of_walk at (m ∷ items) rest = ap (λ l. judge_line (found at m) ++ l) (lines_of_walk (at + length m) items rest)
 
-pub all_lines : (s : List ℕ) → lines_of (messages_from 0 s) ≡ flat_map judge_line (messages_of s)
+-- at first all lines are still to come
+pub all_lines : (s : List ℕ) → lines_of (messages_from 0 s) ≡ judge_lines s
 unfolding walk_from
 all_lines s = lines_of_walk 0 (split s).items (split s).rest
-
--- at first all lines are still to come
-pub all_to_come : (before : Option (List ℕ)) (page s : List ℕ) (ms : List (Result Found ℕ)) → ms ≡ messages_from 0 s → Gathered before before (page ++ flat_map judge_line (messages_of s)) page (lines_of ms)
-all_to_come before page s ms first =
-    subst (λ rest. Gathered before before (page ++ flat_map judge_line (messages_of s)) page rest) (sym (all_lines s) ∙ ap lines_of (sym first)) (begun before page (flat_map judge_line (messages_of s)))
-
-pub verdict_done : (before now later : Option (List ℕ)) (whole page next : List ℕ) (ms rest : List (Result Found ℕ)) (m : Found)
-    → ms ≡ Ok m ∷ rest → Gathered before now whole page (lines_of ms) → Gathered now later (page ++ judge_line m) next [] → Gathered before later whole next (lines_of rest)
-verdict_done before now later whole page next ms rest m is g h =
-    joined_on before now later whole page next (judge_line m) (lines_of rest) (subst (λ l. Gathered before now whole page l) (ap lines_of is) g) h
-
-pub verdict_stops : (before now later : Option (List ℕ)) (whole page : List ℕ) (ms rest : List (Result Found ℕ)) (m : Found) (f g h : ℕ) (status : Status)
-    → ms ≡ Ok m ∷ rest → Gathered before now whole page (lines_of ms) → g ≡ f → Stops now later (page ++ judge_line m) g h status → Stops before later whole f h status
-verdict_stops before now later whole page ms rest m f g h status is so_far quiet s =
-    stops_behind before now later whole page (judge_line m) (lines_of rest) f g h status (subst (λ l. Gathered before now whole page l) (ap lines_of is) so_far) quiet s

@@ -1,6 +1,5 @@
 mod InputLemmas
-mod JudgeLemmas
 mod OutputLemmas
+mod HearLemmas
+mod JudgeLemmas
 mod TopLemmas
-pub mod ExecLemmas
-pub mod CheckLemmas

@@ -1,19 +1,16 @@
--- Texts that are gathered one after another, and then put.
-use Rattle.std.proofs.Common.{◌≡◌, ℕ, ◌<◌, length, List, [], ◌++◌, Option, Some, None, Result, Ok, Err, sym, ◌∙◌, ap, subst, arith, append_assoc}
+-- Texts that are gathered one after another, and then written.
+use Rattle.std.proofs.Common.{◌≡◌, ◌≢◌, ℕ, ◌<◌, length, List, [], ◌++◌, Option, Some, None, Result, Ok, Err, refl, sym, ◌∙◌, ap, subst, inl, inr, arith, append_assoc}
 use Rattle.std.specs.Result.{IsErrAnd}
 use Rattle.std.proofs.lemmas.List.{append-nil}
-use Rattle.xb_words.specs.Table.{behind, entry_after, IsRising}
-use Rattle.xb_words.proofs.Tables.{after-some, after-none}
 use Rattle.xb_io.specs.Causes.{Rose, TookFront}
 use Rattle.xb_io.specs.Pages.{Gathered}
-use Rattle.xb_values.specs.Prefixes.{Prefix, Sections, prefix_cmp}
-use Rattle.xb_io.proofs.PageLemmas.{joined_on, front_on, front_put, all_taken, begun}
-use Rattle.xb_values.proofs.PrefixLemmas.{prefix_cmp_total}
+use Rattle.xb_io.proofs.PageLemmas.{joined_on, front_on, front_put, front_taken, all_taken, begun}
 use Rattle.xbgp_top.specs.declared.status.Status.{Status}
-use Rattle.xbgp_top.specs.Answers.{answered, heard_line, table_lines}
+use Rattle.xbgp_top.specs.declared.status.Status.TheVariants.{Done, WriteFault, OutOfMemory}
+use Rattle.xbgp_top.specs.Answers.{answered, end_line}
 use Rattle.xbgp_top.specs.Outputs.{Gathers, Stops, Writes}
 
--- a text that comes behind the whole is still to come
+-- a text that comes after the whole is still to come
 more_to_come : (before now : Option (List ℕ)) (whole page text : List ℕ) → Gathered before now whole page [] → Gathered before now (whole ++ text) page (text ++ [])
 more_to_come before now whole page text g =
     record {
@@ -23,92 +20,73 @@ more_to_come before now whole page text g =
           ∙ sym (append_assoc g.taken page text) ∙ ap (λ l. l ++ text) (ap (λ l. g.taken ++ l) (sym (append-nil page)) ∙ g.joins);
     }
 
-pub stops_behind : (before now later : Option (List ℕ)) (whole page part rest : List ℕ) (f g h : ℕ) (status : Status)
-    → Gathered before now whole page (part ++ rest) → g ≡ f → Stops now later (page ++ part) g h status → Stops before later whole f h status
-stops_behind before now later whole page part rest f g h status so_far quiet s =
-    record {
-      only = s.only;
-      front = front_on before now later whole page part rest so_far s.front;
-      fault = λ e. subst (λ (n : ℕ). Rose n h) quiet (s.fault e);
-      later = omega (arith, quiet, s.later);
-    }
+module _ {K : Type 0} (took : K → Option (List ℕ)) (faults : K → ℕ) where
+  -- want of memory, before the next text
+  pub stops-memory : (old new : K) (whole page rest : List ℕ) → Gathered (took old) (took new) whole page rest → faults new ≡ faults old → Stops took faults old new whole OutOfMemory
+  stops-memory old new whole page rest g quiet =
+      record { only = inr refl; front = front_taken (took old) (took new) whole page rest g; fault = λ e. absurd (cc e); later = omega (arith, quiet) }
 
--- two texts, one after the other
-pub gathers_then : (before now later : Option (List ℕ)) (page middle next first second : List ℕ) (f g h : ℕ) (end : Result (Unit {0}) Status)
-    → Gathered before now (page ++ first) middle [] × (g ≡ f) → Gathers now later middle next second g h end → Gathers before later page next (first ++ second) f h end
-gathers_then before now later page middle next first second f g h (Ok done) one two =
-    let whole : (page ++ first) ++ second ≡ page ++ (first ++ second) = append_assoc page first second in (
-      subst (λ w. Gathered before later w next []) whole (joined_on before now later ((page ++ first) ++ second) middle next second [] (more_to_come before now (page ++ first) middle second one.0) two.0),
-      two.1 ∙ one.1,
-    )
-gathers_then before now later page middle next first second f g h (Err status) one two =
-    let whole : (page ++ first) ++ second ≡ page ++ (first ++ second) = append_assoc page first second in
-    subst (λ w. Stops before later w f h status) whole (stops_behind before now later ((page ++ first) ++ second) middle second [] f g h status (more_to_come before now (page ++ first) middle second one.0) one.1 two)
+  -- a part of what was to come stopped
+  pub stops-then : (old mid new : K) (whole page part rest : List ℕ) (status : Status)
+      → Gathered (took old) (took mid) whole page (part ++ rest) → faults mid ≡ faults old → Stops took faults mid new (page ++ part) status → Stops took faults old new whole status
+  stops-then old mid new whole page part rest status so_far quiet s =
+      record {
+        only = s.only;
+        front = front_on (took old) (took mid) (took new) whole page part rest so_far s.front;
+        fault = λ e. subst (λ (n : ℕ). Rose n (faults new)) quiet (s.fault e);
+        later = omega (arith, quiet, s.later);
+      }
 
--- what stopped in the first of two texts stopped in both
-pub stops_first : (before now : Option (List ℕ)) (page first second : List ℕ) (f g : ℕ) (status : Status)
-    → Stops before now (page ++ first) f g status → Stops before now (page ++ (first ++ second)) f g status
-stops_first before now page first second f g status s =
-    record {
-      only = s.only;
-      front = subst (λ w. TookFront before now w) (append_assoc page first second) (front_put before before now ((page ++ first) ++ second) (page ++ first) second (begun before (page ++ first) second) s.front);
-      fault = s.fault;
-      later = s.later;
-    }
+  -- a call that hands an error on by `?` ends as that error says
+  pub gathers-stops : (old new : K) (page next text : List ℕ) (status : Status) (result : Result (Unit {0}) Status)
+      → IsErrAnd result (λ s. s ≡ status) → Stops took faults old new (page ++ text) status → Gathers took faults old new page next text result
+  gathers-stops old new page next text status (Ok done) wrong stops = absurd wrong
+  gathers-stops old new page next text status (Err s) same stops = subst (λ (t : Status). Stops took faults old new (page ++ text) t) (sym same) stops
 
--- what stands on the page in the end is put
-pub puts_the_page : (before now later : Option (List ℕ)) (text first page shown : List ℕ) (f g h : ℕ) (status end : Status)
-    → first ≡ [] → shown ≡ page → Gathered before now (first ++ text) page [] × (g ≡ f)
-    → Writes (answered status shown) now later g h end → Writes (answered status text) before later f h end
-puts_the_page before now later text first page shown f g h status end empty same so_far w =
-    let gathered : Gathered before now text shown [] =
-    subst (λ p. Gathered before now text p []) (sym same) (subst (λ l. Gathered before now (l ++ text) page []) empty so_far.0) in
-    record {
-      only = w.only;
-      whole = λ a b. all_taken before now later text shown gathered (w.whole a b);
-      front = front_put before now later text shown [] gathered w.front;
-      fault = λ e. subst (λ (n : ℕ). Rose n h) so_far.1 (w.fault e);
-      quiet = λ a b. w.quiet a b ∙ so_far.1;
-      later = omega (arith, so_far.1, w.later);
-    }
+  -- a text that stopped, when it was all of an answer but the last line
+  pub writes-stops : (old new : K) (first text : List ℕ) (status : Status) → first ≡ [] → Stops took faults old new (first ++ text) status
+      → Writes (answered Done (text ++ end_line)) took faults old new status
+  writes-stops old new first text status empty s =
+      let front : TookFront (took old) (took new) text = subst (λ l. TookFront (took old) (took new) (l ++ text)) empty s.front in
+      record {
+        only = inr s.only;
+        whole = λ a b. absurd (elim (s.only) as (λ _. ⊥) [ inl w ↦ a w | inr m ↦ b m ]);
+        front = front_put (took old) (took old) (took new) (text ++ end_line) text end_line (begun (took old) text end_line) front;
+        fault = λ e. inr (s.fault e);
+        quiet = λ a b. absurd (elim (s.only) as (λ _. ⊥) [ inl w ↦ a w | inr m ↦ b m ]);
+        later = s.later;
+      }
 
--- how the lines of a table go on
-next_line : (table : Sections) (last : Option Prefix) (e : Prefix × List ℕ) → IsRising prefix_cmp table → entry_after prefix_cmp table last ≡ Some e
-    → table_lines (behind prefix_cmp table last) ≡ heard_line e ++ table_lines (behind prefix_cmp table (Some e.0))
-next_line table last e rising is = ap table_lines (after-some prefix_cmp prefix_cmp_total table last e rising is)
+  -- a text was gathered, and the page was written with the last line
+  pub writes-page : (old mid new : K) (text first page : List ℕ) (status : Status) → first ≡ []
+      → Gathered (took old) (took mid) (first ++ text) page [] × (faults mid ≡ faults old)
+      → Writes (answered Done (page ++ end_line)) took faults mid new status → Writes (answered Done (text ++ end_line)) took faults old new status
+  writes-page old mid new text first page status empty so_far w =
+      let gathered : Gathered (took old) (took mid) text page [] = subst (λ l. Gathered (took old) (took mid) (l ++ text) page []) empty so_far.0 in
+      let more : Gathered (took old) (took mid) (text ++ end_line) page (end_line ++ []) = more_to_come (took old) (took mid) text page end_line gathered in
+      record {
+        only = w.only;
+        whole = λ a b. all_taken (took old) (took mid) (took new) (text ++ end_line) (page ++ end_line) (written_line more) (w.whole a b);
+        front = front_on (took old) (took mid) (took new) (text ++ end_line) page end_line [] more w.front;
+        fault = λ e. elim (w.fault e) as (λ _. (Done ≡ WriteFault) ⊎ Rose (faults old) (faults new)) [ inl other ↦ inl other | inr rose ↦ inr (subst (λ (n : ℕ). Rose n (faults new)) so_far.1 rose) ];
+        quiet = λ a b. w.quiet a b ∙ so_far.1;
+        later = omega (arith, so_far.1, w.later);
+      }
+    where
+      written_line : Gathered (took old) (took mid) (text ++ end_line) page (end_line ++ []) → Gathered (took old) (took mid) (text ++ end_line) (page ++ end_line) []
+      written_line g = record { taken = g.taken; took = g.took; joins = ap (λ l. g.taken ++ l) (append_assoc page end_line []) ∙ g.joins }
 
-line_to_come : (before now : Option (List ℕ)) (whole page : List ℕ) (table : Sections) (last : Option Prefix) (e : Prefix × List ℕ)
-    → IsRising prefix_cmp table → entry_after prefix_cmp table last ≡ Some e → Gathered before now whole page (table_lines (behind prefix_cmp table last))
-    → Gathered before now whole page (heard_line e ++ table_lines (behind prefix_cmp table (Some e.0)))
-line_to_come before now whole page table last e rising is g =
-    subst (λ rest. Gathered before now whole page rest) (next_line table last e rising is) g
-
-pub line_done : (before now later : Option (List ℕ)) (whole page next : List ℕ) (table : Sections) (last : Option Prefix) (e : Prefix × List ℕ)
-    → IsRising prefix_cmp table → entry_after prefix_cmp table last ≡ Some e → Gathered before now whole page (table_lines (behind prefix_cmp table last))
-    → Gathered now later (page ++ heard_line e) next [] → Gathered before later whole next (table_lines (behind prefix_cmp table (Some e.0)))
-line_done before now later whole page next table last e rising is so_far line =
-    joined_on before now later whole page next (heard_line e) (table_lines (behind prefix_cmp table (Some e.0)))
-    (line_to_come before now whole page table last e rising is so_far) line
-
-pub line_stops : (before now later : Option (List ℕ)) (whole page : List ℕ) (table : Sections) (last : Option Prefix) (e : Prefix × List ℕ) (f g h : ℕ) (status : Status)
-    → IsRising prefix_cmp table → entry_after prefix_cmp table last ≡ Some e → Gathered before now whole page (table_lines (behind prefix_cmp table last))
-    → g ≡ f → Stops now later (page ++ heard_line e) g h status → Stops before later whole f h status
-line_stops before now later whole page table last e f g h status rising is so_far quiet s =
-    stops_behind before now later whole page (heard_line e) (table_lines (behind prefix_cmp table (Some e.0))) f g h status
-    (line_to_come before now whole page table last e rising is so_far) quiet s
-
-pub last_line : (before now : Option (List ℕ)) (whole page : List ℕ) (table : Sections) (last : Option Prefix) → entry_after prefix_cmp table last ≡ None
-    → Gathered before now whole page (table_lines (behind prefix_cmp table last)) → Gathered before now whole page []
-last_line before now whole page table last is g =
-    subst (λ rest. Gathered before now whole page (table_lines rest)) (after-none prefix_cmp prefix_cmp_total table last is) g
-
--- fewer entries are left behind each next one
-pub fewer_behind : (table : Sections) (last : Option Prefix) (e : Prefix × List ℕ) → IsRising prefix_cmp table → entry_after prefix_cmp table last ≡ Some e
-    → length (behind prefix_cmp table (Some e.0)) < length (behind prefix_cmp table last)
-fewer_behind table last e rising is = omega (arith, ap length (after-some prefix_cmp prefix_cmp_total table last e rising is))
-
--- a call that hands an error on by `?` ends as that error says
-pub stops_on : (before now : Option (List ℕ)) (page next text : List ℕ) (faults_before faults_now : ℕ) (status : Status) (result : Result (Unit {0}) Status)
-    → IsErrAnd result (λ s. s ≡ status) → Stops before now (page ++ text) faults_before faults_now status → Gathers before now page next text faults_before faults_now result
-stops_on before now page next text faults_before faults_now status (Ok done) wrong stops = absurd wrong
-stops_on before now page next text faults_before faults_now status (Err s) same stops = subst (λ (t : Status). Stops before now (page ++ text) faults_before faults_now t) (sym same) stops
+  -- the page's last line was gathered, and what is on the page was written
+  pub writes-gathered : (old mid new : K) (text page shown : List ℕ) (status : Status) → shown ≡ page
+      → Gathered (took old) (took mid) text page [] × (faults mid ≡ faults old)
+      → Writes (answered Done shown) took faults mid new status → Writes (answered Done text) took faults old new status
+  writes-gathered old mid new text page shown status same so_far w =
+      let gathered : Gathered (took old) (took mid) text shown [] = subst (λ p. Gathered (took old) (took mid) text p []) (sym same) so_far.0 in
+      record {
+        only = w.only;
+        whole = λ a b. all_taken (took old) (took mid) (took new) text shown gathered (w.whole a b);
+        front = front_put (took old) (took mid) (took new) text shown [] gathered w.front;
+        fault = λ e. elim (w.fault e) as (λ _. (Done ≡ WriteFault) ⊎ Rose (faults old) (faults new)) [ inl other ↦ inl other | inr rose ↦ inr (subst (λ (n : ℕ). Rose n (faults new)) so_far.1 rose) ];
+        quiet = λ a b. w.quiet a b ∙ so_far.1;
+        later = omega (arith, so_far.1, w.later);
+      }

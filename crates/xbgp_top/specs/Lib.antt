@@ -1,9 +1,8 @@
 pub mod Words
+pub mod Statuses
 pub mod Commands
 pub mod Answers
-pub mod Codes
 pub mod Inputs
 pub mod Outputs
 pub mod Top
-pub mod Shown
-pub mod Met
+pub mod Views

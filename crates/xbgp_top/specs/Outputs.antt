@@ -1,40 +1,30 @@
--- How a text goes to a sink, and what the status says of it.
+-- How an answer goes to a sink, and what the status says of it.
 use Rattle.std.specs.Prelude.{◌≡◌, ◌≢◌, ◌⊎◌, ℕ, ◌≤◌, List, [], ◌++◌, Option, Result, Ok, Err}
 use Rattle.xb_io.specs.Causes.{Rose, TookFront, and_then}
 use Rattle.xb_io.specs.Pages.{Gathered}
-use Rattle.xbgp_top.specs.Answers.{Answer, long_answer}
-use Rattle.xbgp_top.specs.declared.input.Unread.{Unread}
-use Rattle.xbgp_top.specs.declared.input.Unread.TheVariants as reasons
-use Rattle.xbgp_top.specs.declared.input.Unread.TheVariants.{Long, Fault}
-use Rattle.xbgp_top.specs.declared.status.File.{File}
+use Rattle.xbgp_top.specs.Answers.{Answer}
 use Rattle.xbgp_top.specs.declared.status.Status.{Status}
-use Rattle.xbgp_top.specs.declared.status.Status.TheVariants.{ReadFault, WriteFault, OutOfMemory}
+use Rattle.xbgp_top.specs.declared.status.Status.TheVariants.{WriteFault, OutOfMemory}
 
--- an answer was to be written, and ended with a status
-pub record Writes (answer : Answer) (before now : Option (List ℕ)) (faults_before faults_now : ℕ) (status : Status) : Type 0 where
+-- an answer was to be written, and that ended with a status
+pub record Writes {K : Type 0} (answer : Answer) (took : K → Option (List ℕ)) (faults : K → ℕ) (old new : K) (status : Status) : Type 0 where
   -- the answer's status, a fault of the sink, or want of memory
   pub only : (status ≡ answer.status) ⊎ ((status ≡ WriteFault) ⊎ (status ≡ OutOfMemory))
-  -- the whole text was taken where the status is the answer's
-  pub whole : status ≢ WriteFault → status ≢ OutOfMemory → now ≡ and_then before answer.text
-  pub front : TookFront before now answer.text
-  pub fault : status ≡ WriteFault → Rose faults_before faults_now
-  pub quiet : status ≢ WriteFault → status ≢ OutOfMemory → faults_now ≡ faults_before
-  pub later : faults_before ≤ faults_now
+  -- the whole text was taken if the status is the answer's
+  pub whole : status ≢ WriteFault → status ≢ OutOfMemory → took new ≡ and_then (took old) answer.text
+  pub front : TookFront (took old) (took new) answer.text
+  pub fault : status ≡ WriteFault → (answer.status ≡ WriteFault) ⊎ Rose (faults old) (faults new)
+  pub quiet : status ≢ WriteFault → status ≢ OutOfMemory → faults new ≡ faults old
+  pub later : faults old ≤ faults new
 
 -- a text was to be gathered behind what stands on a page, and that ended early
-pub record Stops (before now : Option (List ℕ)) (whole : List ℕ) (faults_before faults_now : ℕ) (status : Status) : Type 0 where
+pub record Stops {K : Type 0} (took : K → Option (List ℕ)) (faults : K → ℕ) (old new : K) (whole : List ℕ) (status : Status) : Type 0 where
   pub only : (status ≡ WriteFault) ⊎ (status ≡ OutOfMemory)
-  pub front : TookFront before now whole
-  pub fault : status ≡ WriteFault → Rose faults_before faults_now
-  pub later : faults_before ≤ faults_now
+  pub front : TookFront (took old) (took new) whole
+  pub fault : status ≡ WriteFault → Rose (faults old) (faults new)
+  pub later : faults old ≤ faults new
 
 -- a text was gathered behind what stood on a page, or that ended early
-abbrev pub Gathers : Option (List ℕ) → Option (List ℕ) → List ℕ → List ℕ → List ℕ → ℕ → ℕ → Result (Unit {0}) Status → Type 0
-Gathers before now page next text faults_before faults_now (Ok done) = Gathered before now (page ++ text) next [] × (faults_now ≡ faults_before)
-Gathers before now page next text faults_before faults_now (Err status) = Stops before now (page ++ text) faults_before faults_now status
-
--- an input was not read: its line is written where it is too long, and else nothing
-abbrev pub Stopped : File → Unread → Option (List ℕ) → Option (List ℕ) → ℕ → ℕ → Status → Type 0
-Stopped file Long before now faults_before faults_now status = Writes (long_answer file) before now faults_before faults_now status
-Stopped file Fault before now faults_before faults_now status = (status ≡ ReadFault) × (now ≡ before) × (faults_now ≡ faults_before)
-Stopped file reasons.OutOfMemory before now faults_before faults_now status = (status ≡ OutOfMemory) × (now ≡ before) × (faults_now ≡ faults_before)
+abbrev pub Gathers : {K : Type 0} → (K → Option (List ℕ)) → (K → ℕ) → K → K → List ℕ → List ℕ → List ℕ → Result (Unit {0}) Status → Type 0
+Gathers took faults old new page next text (Ok done) = Gathered (took old) (took new) (page ++ text) next [] × (faults new ≡ faults old)
+Gathers took faults old new page next text (Err status) = Stops took faults old new (page ++ text) status

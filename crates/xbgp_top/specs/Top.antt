@@ -1,38 +1,33 @@
 -- Which answer the top call gives, and when.
-use Rattle.std.specs.Prelude.{◌≡◌, ◌≢◌, ◌⊎◌, ℕ, ◌≤◌, List, Option, Some, None, IfSome, IsSomeAnd}
-use Rattle.std.specs.Option.{option_map}
+use Rattle.std.specs.Prelude.{◌≡◌, ◌≢◌, ◌⊎◌, ℕ, ◌≤◌, List, Option, Some, None}
 use Rattle.xb_io.specs.Causes.{Files, Rose, TookFront, and_then}
 use Rattle.xbgp_top.specs.declared.status.Status.{Status}
 use Rattle.xbgp_top.specs.declared.status.Status.TheVariants.{Usage, ReadFault, WriteFault, OutOfMemory}
-use Rattle.xbgp_top.specs.Answers.{Answer, answer, command_answer, usage_answer}
+use Rattle.xbgp_top.specs.Answers.{Answer, fault_text}
 use Rattle.xbgp_top.specs.Commands.{Command}
 
--- the answer's status, and its whole text but where an input is not held
+-- the answer's status, and its whole text unless an input is not held
 abbrev pub IsAnswered : Answer → Option (List ℕ) → Option (List ℕ) → Status → Type 0
 IsAnswered answer before now status = (status ≡ answer.status) × (status ≢ ReadFault → now ≡ and_then before answer.text)
 
--- words that are no command give Usage, unless its line could not be put; a command never does
-abbrev pub IsUsage : Option Command → Status → Type 0
-IsUsage None status = (status ≡ Usage) ⊎ ((status ≡ WriteFault) ⊎ (status ≡ OutOfMemory))
-IsUsage (Some command) status = status ≢ Usage
+-- words that are no command give Usage with its line, unless the sink failed; a command never gives Usage
+abbrev pub IsUsage : Option Command → Option (List ℕ) → Option (List ℕ) → Status → Type 0
+IsUsage None before now status = ((status ≡ Usage) × (now ≡ and_then before (fault_text Usage))) ⊎ (status ≡ WriteFault)
+IsUsage (Some command) before now status = status ≢ Usage
 
 -- the shelf tells, and the answer says that an input is not held
-abbrev pub SaysMissing : Option Files → List (List ℕ) → Type 0
-SaysMissing None words = ⊥
-SaysMissing (Some files) words = (answer words files).status ≡ ReadFault
+abbrev pub SaysMissing : Option Files → (Files → Answer) → Type 0
+SaysMissing None answer = ⊥
+SaysMissing (Some files) answer = (answer files).status ≡ ReadFault
 
--- what is known of the answer: words that are no command need no files
-abbrev pub told_answer : Option Command → Option Files → Option Answer
-told_answer None held = Some usage_answer
-told_answer (Some command) held = option_map (command_answer command) held
-
--- a status by the answer that is known, by both counts of faults, and by what the sink took
-pub record Explains (told : Option Answer) (reads_before reads_now writes_before writes_now : ℕ) (before now : Option (List ℕ)) (status : Status) : Type 0 where
-  pub exact : IfSome told (λ answer. ¬ Rose reads_before reads_now → ¬ Rose writes_before writes_now → status ≢ OutOfMemory → IsAnswered answer before now status)
-  pub front : IfSome told (λ answer. TookFront before now answer.text)
-  pub read_fault : status ≡ ReadFault → Rose reads_before reads_now ⊎ IsSomeAnd told (λ answer. answer.status ≡ ReadFault)
-  pub write_fault : status ≡ WriteFault → Rose writes_before writes_now
-  pub quiet_reads : status ≢ ReadFault → status ≢ OutOfMemory → reads_now ≡ reads_before
-  pub quiet_writes : status ≢ WriteFault → status ≢ OutOfMemory → writes_now ≡ writes_before
-  pub later_reads : reads_before ≤ reads_now
-  pub later_writes : writes_before ≤ writes_now
+-- a run over a shelf and a sink ended with a status, which the answer or a fault explains
+pub record Explains {S K : Type 0} (held : S → Option Files) (reads : S → ℕ) (took : K → Option (List ℕ)) (writes : K → ℕ) (shelf_old shelf_new : S) (sink_old sink_new : K) (answer : Files → Answer) (status : Status) : Type 0 where
+  pub exact : (files : Files) → held shelf_old ≡ Some files → ¬ Rose (reads shelf_old) (reads shelf_new) → ¬ Rose (writes sink_old) (writes sink_new)
+      → status ≢ OutOfMemory → IsAnswered (answer files) (took sink_old) (took sink_new) status
+  pub front : (files : Files) → held shelf_old ≡ Some files → TookFront (took sink_old) (took sink_new) (answer files).text
+  pub read_cause : status ≡ ReadFault → Rose (reads shelf_old) (reads shelf_new) ⊎ SaysMissing (held shelf_old) answer
+  pub write_cause : status ≡ WriteFault → Rose (writes sink_old) (writes sink_new)
+  pub quiet_shelf : status ≢ ReadFault → status ≢ OutOfMemory → reads shelf_new ≡ reads shelf_old
+  pub quiet_sink : status ≢ WriteFault → status ≢ OutOfMemory → writes sink_new ≡ writes sink_old
+  pub later_shelf : reads shelf_old ≤ reads shelf_new
+  pub later_sink : writes sink_old ≤ writes sink_new

@@ -6,8 +6,8 @@ use Rattle.xb_domain.specs.declared.bad.Part.{Part}
 use Rattle.xb_domain.specs.declared.bad.Part.TheVariants as parts
 use Rattle.bpf_insn.specs.declared.fault.LoadKind.{LoadKind}
 use Rattle.xbgp_manifest.specs.Manifests.{kind_of}
-use Rattle.bpf_machine.specs.declared.world.Cause.{Cause}
-use Rattle.bpf_machine.specs.declared.world.Cause.TheVariants as causes
+use Rattle.xbgp_top.specs.declared.status.File.{File}
+use Rattle.xbgp_top.specs.declared.status.File.TheVariants as files
 
 -- what is wrong with a configuration or a manifest
 abbrev pub kind_word : BadKind → List ℕ
@@ -30,7 +30,7 @@ kind_word kinds.WriteR10 = codes "writer10"
 kind_word kinds.Helper = codes "helper"
 kind_word kinds.OpenEnd = codes "openend"
 
--- the part in which it stands
+-- the part in which it is
 abbrev pub part_word : Part → List ℕ
 part_word parts.Top = codes "top"
 part_word parts.Speaker = codes "speaker"
@@ -44,10 +44,8 @@ part_word parts.Program = codes "program"
 abbrev pub load_word : LoadKind → List ℕ
 load_word kind = kind_word (kind_of kind)
 
--- why a program failed
-abbrev pub cause_word : Cause → List ℕ
-cause_word causes.Memory = codes "memory"
-cause_word causes.Fuel = codes "fuel"
-cause_word causes.Misuse = codes "misuse"
-cause_word causes.BadReturn = codes "return"
-cause_word causes.BadOutput = codes "output"
+-- an input
+abbrev pub file_word : File → List ℕ
+file_word files.Input = codes "input"
+file_word files.Config = codes "config"
+file_word files.Manifest = codes "manifest"

@@ -1,7 +1,8 @@
+//! The commands of the program, read from the words of the command line.
 ghost use Rattle.std.specs.Prelude.{◌≡◌, map, string_bytes};
 ghost use Rattle.std.specs.Option.{option_map};
 ghost use Rattle.xbgp_top.specs.Commands.{command_of, job_of};
-ghost use Rattle.xbgp_top.specs.Shown.{shown};
+ghost use Rattle.xbgp_top.specs.Views.{command_view};
 
 /// What is asked about one file that is read whole.
 #[derive(Clone, Copy, Debug, PartialEq, Eq)]
@@ -18,6 +19,7 @@ pub(crate) enum Command<'a> {
     Check(&'a str, &'a str),
 }
 
+// The job that a word names.
 fn job_in(word: &str) -> Option<Job>
     ensures { result ≡ job_of word.now }
 {
@@ -32,9 +34,9 @@ fn job_in(word: &str) -> Option<Job>
     }
 }
 
-/// The command that the words are.
+/// The command that the words are, without the program's own name.
 pub(crate) fn command_in(words: &[String]) -> Option<Command<'_>>
-    ensures { option_map shown result ≡ command_of (map string_bytes words.now) }
+    ensures { option_map command_view result ≡ command_of (map string_bytes words.now) }
 {
     match words {
         [word, name] => match job_in(word.as_str()) {

@@ -1,33 +1,34 @@
+//! The top call: the words' command is found, its inputs are read, and its answer is written.
 ghost use Rattle.std.specs.Prelude.{◌≡◌, ◌≢◌, ◌≤◌, ◌⊎◌, Some, map, string_bytes};
 ghost use Rattle.xb_io.specs.Causes.{Files, Rose, TookFront};
-ghost use Rattle.xbgp_top.specs.Answers.{answer, job_answer};
-ghost use Rattle.xbgp_top.specs.Commands.{command_of, on_file};
+ghost use Rattle.xbgp_top.specs.Answers.{answer, command_answer, ended, job_outcome};
+ghost use Rattle.xbgp_top.specs.Commands.{check, command_of, on_file};
 ghost use Rattle.xbgp_top.specs.Outputs.{Writes};
-ghost use Rattle.xbgp_top.specs.Top.{Explains, IsAnswered, IsUsage, SaysMissing, told_answer};
+ghost use Rattle.xbgp_top.specs.Top.{Explains, IsAnswered, IsUsage, SaysMissing};
 
-use crate::check::check_config;
+use crate::check::check;
 use crate::command::{Command, Job, command_in};
-use crate::exec::print_ended;
+use crate::exec::exec;
 use crate::hear::print_heard;
 use crate::input::read_input;
 use crate::judge::print_judged;
-use crate::output::{not_read, say};
+use crate::output::{USAGE_LINE, print_text, refuse, write_all};
 use crate::{File, Status};
 use std::alloc::Global;
 use xb_io::{Shelf, Sink};
 
-// Answers what is asked about octets that were read.
+// Writes what is asked about octets that were read.
 fn print_job<K: Sink>(alloc: Global, job: Job, octets: &[u8], sink: &mut K) -> Status
-    ensures { Writes (job_answer job octets.now) (K.took sink.old) (K.took sink.new) (K.faults sink.old) (K.faults sink.new) result }
+    ensures { Writes (ended (job_outcome job octets.now)) K.took K.faults sink.old sink.new result }
 {
     match job {
         Job::Heard => print_heard(alloc, octets, sink),
         Job::Judge => print_judged(alloc, octets, sink),
-        Job::Exec => print_ended(alloc, octets, sink),
+        Job::Exec => print_text(alloc, exec(alloc, octets), sink),
     }
 }
 
-// Reads a file and answers what is asked about it.
+// Reads a file and writes what is asked about it.
 fn ask_file<S: Shelf, K: Sink>(
     alloc: Global,
     job: Job,
@@ -35,54 +36,80 @@ fn ask_file<S: Shelf, K: Sink>(
     shelf: &mut S,
     sink: &mut K,
 ) -> Status
-    ensures explains { Explains (told_answer (Some (on_file job name.now)) (S.held shelf.old)) (S.faults shelf.old) (S.faults shelf.new) (K.faults sink.old) (K.faults sink.new) (K.took sink.old) (K.took sink.new) result }
+    ensures explains {
+        let told = command_answer (on_file job name.now) in
+        Explains S.held S.faults K.took K.faults shelf.old shelf.new sink.old sink.new told result
+    }
     ensures command { result ≢ Status.Usage }
 {
-    match read_input(alloc, shelf, name) {
+    match read_input(alloc, File::Input, name, shelf) {
         Ok(octets) => print_job(alloc, job, &octets, sink),
-        Err(why) => not_read(File::Input, why, sink),
+        Err(status) => refuse(alloc, status, sink),
     }
 }
 
-// Does what the words say.
-fn obey<S: Shelf, K: Sink>(alloc: Global, words: &[String], shelf: &mut S, sink: &mut K) -> Status
-    ensures explains { Explains (told_answer (command_of (map string_bytes words.now)) (S.held shelf.old)) (S.faults shelf.old) (S.faults shelf.new) (K.faults sink.old) (K.faults sink.new) (K.took sink.old) (K.took sink.new) result }
-    ensures usage { IsUsage (command_of (map string_bytes words.now)) result }
+// Checks a configuration and a manifest, and writes what they have.
+fn check_files<S: Shelf, K: Sink>(
+    alloc: Global,
+    config: &str,
+    manifest: &str,
+    shelf: &mut S,
+    sink: &mut K,
+) -> Status
+    ensures explains {
+        let told = command_answer (check config.now manifest.now) in
+        Explains S.held S.faults K.took K.faults shelf.old shelf.new sink.old sink.new told result
+    }
+    ensures command { result ≢ Status.Usage }
 {
-    match command_in(words) {
-        None => say(sink, b"fault usage\n", Status::Usage),
-        Some(Command::File(job, name)) => ask_file(alloc, job, name, shelf, sink),
-        Some(Command::Check(config, manifest)) => {
-            check_config(alloc, config, manifest, shelf, sink)
-        }
-    }
+    let text = check(alloc, config, manifest, shelf);
+    print_text(alloc, text, sink)
 }
 
-/// Does what the words of the command line say, without the program's own name, over the files of the shelf, and puts the
-/// text to the sink.
+/// Does what the words of the command line say, without the program's own name, over the files of the shelf, and writes
+/// the text to the sink.
 pub fn run<S: Shelf, K: Sink>(
     alloc: Global,
     words: &[String],
     shelf: &mut S,
     sink: &mut K,
 ) -> Status
-    // Where the shelf tells and no count of faults rose: the answer's status with its whole text, or want of memory.
-    ensures exact { (files : Files) → S.held shelf.old ≡ Some files → ¬ Rose (S.faults shelf.old) (S.faults shelf.new) → ¬ Rose (K.faults sink.old) (K.faults sink.new)
-        → result ≢ Status.OutOfMemory → IsAnswered (answer (map string_bytes words.now) files) (K.took sink.old) (K.took sink.new) result }
+    // If the shelf tells and no count of faults rose: the answer's status with its whole text, or want of memory.
+    ensures exact {
+        let told = answer (map string_bytes words.now) in
+        (files : Files) → S.held shelf.old ≡ Some files
+        → ¬ Rose (S.faults shelf.old) (S.faults shelf.new) → ¬ Rose (K.faults sink.old) (K.faults sink.new)
+        → result ≢ Status.OutOfMemory → IsAnswered (told files) (K.took sink.old) (K.took sink.new) result
+    }
 
     // In every case a front of the answer's text was taken.
-    ensures front { (files : Files) → S.held shelf.old ≡ Some files → TookFront (K.took sink.old) (K.took sink.new) (answer (map string_bytes words.now) files).text }
+    ensures front {
+        let told = answer (map string_bytes words.now) in
+        (files : Files) → S.held shelf.old ≡ Some files
+        → TookFront (K.took sink.old) (K.took sink.new) (told files).text
+    }
 
-    // The words alone decide on Usage, whatever the shelf tells.
-    ensures usage { IsUsage (command_of (map string_bytes words.now)) result }
+    // The words alone decide on Usage, and its line is all that is written then, whatever the shelf tells.
+    ensures usage { IsUsage (command_of (map string_bytes words.now)) (K.took sink.old) (K.took sink.new) result }
 
-    // No fault is answered without its cause, and no other answer where a count rose.
-    ensures read_cause { result ≡ Status.ReadFault → Rose (S.faults shelf.old) (S.faults shelf.new) ⊎ SaysMissing (S.held shelf.old) (map string_bytes words.now) }
+    // No fault is returned without its cause, and no other answer if a count rose.
+    ensures read_cause {
+        let told = answer (map string_bytes words.now) in
+        result ≡ Status.ReadFault → Rose (S.faults shelf.old) (S.faults shelf.new) ⊎ SaysMissing (S.held shelf.old) told
+    }
     ensures write_cause { result ≡ Status.WriteFault → Rose (K.faults sink.old) (K.faults sink.new) }
-    ensures quiet_shelf { result ≢ Status.ReadFault → result ≢ Status.OutOfMemory → S.faults shelf.new ≡ S.faults shelf.old }
-    ensures quiet_sink { result ≢ Status.WriteFault → result ≢ Status.OutOfMemory → K.faults sink.new ≡ K.faults sink.old }
+    ensures quiet_shelf {
+        result ≢ Status.ReadFault → result ≢ Status.OutOfMemory → S.faults shelf.new ≡ S.faults shelf.old
+    }
+    ensures quiet_sink {
+        result ≢ Status.WriteFault → result ≢ Status.OutOfMemory → K.faults sink.new ≡ K.faults sink.old
+    }
     ensures later_shelf { S.faults shelf.old ≤ S.faults shelf.new }
     ensures later_sink { K.faults sink.old ≤ K.faults sink.new }
 {
-    obey(alloc, words, shelf, sink)
+    match command_in(words) {
+        None => write_all(sink, USAGE_LINE, Status::Usage),
+        Some(Command::File(job, name)) => ask_file(alloc, job, name, shelf, sink),
+        Some(Command::Check(config, manifest)) => check_files(alloc, config, manifest, shelf, sink),
+    }
 }

@@ -1,13 +1,17 @@
+//! The command `heard`: the table that a stream of messages announces, a line for each prefix.
 ghost use Rattle.std.specs.Prelude.{◌≡◌, ◌++◌, OnOk};
-ghost use Rattle.xbgp_top.specs.Answers.{answered, end_line, heard_answer, heard_line, table_lines};
+ghost use Rattle.xbgp_top.specs.Answers.{answered, end_line, ended, heard_line, heard_outcome, table_lines};
 ghost use Rattle.xbgp_top.specs.Outputs.{Gathers, Writes};
 
 use crate::Status;
-use crate::output::{LINE, PAGE, begin_line, gather_text, refuse_stream, say};
+use crate::output::{LINE, PAGE, begin_line, gather_text, refuse, write_page};
 use heard_table::{HeardError, Table, heard};
 use std::alloc::{AllocError, Global};
 use xb_io::Sink;
-use xb_values::{Buf, Prefix, push_hex, push_prefix};
+use xb_values::{Buf, Prefix, append_hex, append_prefix};
+
+// Room in a line for all but the digits of the section: a prefix of at most 18 octets, a space, `-` and the line's end.
+const AROUND_SECTION: usize = 24;
 
 // Writes the line of a prefix and its section.
 fn write_entry(
@@ -19,29 +23,12 @@ fn write_entry(
     ensures { OnOk result (line.new.octets ≡ heard_line (prefix, section.now)) }
 {
     let digits = section.len().checked_mul(2).ok_or(AllocError)?;
-    begin_line(alloc, line, digits.checked_add(24).ok_or(AllocError)?)?;
-    let _ = push_prefix(line, prefix);
-    let _ = line.push(b" ");
-    let _ = push_hex(line, section);
-    let _ = line.push(b"\n");
+    begin_line(alloc, line, digits.checked_add(AROUND_SECTION).ok_or(AllocError)?)?;
+    append_prefix(line, prefix);
+    line.append(b" ");
+    append_hex(line, section);
+    line.append(b"\n");
     Ok(())
-}
-
-// Gathers the line of a prefix and its section on a page.
-fn gather_entry<K: Sink>(
-    alloc: Global,
-    line: &mut Buf,
-    prefix: Prefix,
-    section: &[u8],
-    page: &mut Buf,
-    sink: &mut K,
-) -> Result<(), Status>
-    ensures { Gathers (K.took sink.old) (K.took sink.new) page.old.octets page.new.octets (heard_line (prefix, section.now)) (K.faults sink.old) (K.faults sink.new) result }
-{
-    match write_entry(alloc, line, prefix, section) {
-        Ok(()) => gather_text(page, line.as_slice(), sink),
-        Err(_) => Err(Status::OutOfMemory),
-    }
 }
 
 // Gathers the lines of a table on a page.
@@ -51,52 +38,41 @@ fn gather_table<K: Sink>(
     page: &mut Buf,
     sink: &mut K,
 ) -> Result<(), Status>
-    ensures { Gathers (K.took sink.old) (K.took sink.new) page.old.octets page.new.octets (table_lines table.now) (K.faults sink.old) (K.faults sink.new) result }
+    ensures { Gathers K.took K.faults sink.old sink.new page.old.octets page.new.octets (table_lines table.now) result }
 {
-    let Ok(mut line) = Buf::make(alloc, LINE) else {
-        return Err(Status::OutOfMemory);
-    };
+    let mut line = Buf::make(alloc, LINE)?;
     let mut last = None;
-    'entries: while let Some(entry) = table.after(last) {
-        last = Some(entry.0);
-        gather_entry(alloc, &mut line, entry.0, entry.1, page, sink)?;
+    'entries: while let Some((prefix, section)) = table.after(last) {
+        write_entry(alloc, &mut line, prefix, section)?;
+        gather_text(page, line.as_slice(), sink)?;
+        last = Some(prefix);
     }
     Ok(())
 }
 
-// Gathers the lines of a table and the end on a page.
-fn gather_answer<K: Sink>(
-    alloc: Global,
-    table: &Table,
-    page: &mut Buf,
-    sink: &mut K,
-) -> Result<(), Status>
-    ensures { Gathers (K.took sink.old) (K.took sink.new) page.old.octets page.new.octets (table_lines table.now ++ end_line) (K.faults sink.old) (K.faults sink.new) result }
-{
-    gather_table(alloc, table, page, sink)?;
-    gather_text(page, b"end\n", sink)
-}
-
-// Writes a table, a line for each prefix, and the end.
+// Writes a table and the last line.
 fn print_table<K: Sink>(alloc: Global, table: &Table, sink: &mut K) -> Status
-    ensures { Writes (answered Status.Done (table_lines table.now ++ end_line)) (K.took sink.old) (K.took sink.new) (K.faults sink.old) (K.faults sink.new) result }
+    ensures {
+        let text = table_lines table.now ++ end_line in
+        Writes (answered Status.Done text) K.took K.faults sink.old sink.new result
+    }
 {
     let Ok(mut page) = Buf::make(alloc, PAGE) else {
         return Status::OutOfMemory;
     };
-    match gather_answer(alloc, table, &mut page, sink) {
-        Ok(()) => say(sink, page.as_slice(), Status::Done),
+    match gather_table(alloc, table, &mut page, sink) {
+        Ok(()) => write_page(&mut page, sink),
         Err(status) => status,
     }
 }
 
-/// Writes the table that a stream announces, or where the stream is refused.
+/// Writes the table that a stream announces, or the offset at which the stream is refused.
 pub(crate) fn print_heard<K: Sink>(alloc: Global, octets: &[u8], sink: &mut K) -> Status
-    ensures { Writes (heard_answer octets.now) (K.took sink.old) (K.took sink.new) (K.faults sink.old) (K.faults sink.new) result }
+    ensures { Writes (ended (heard_outcome octets.now)) K.took K.faults sink.old sink.new result }
 {
     match heard(alloc, octets) {
         Ok(table) => print_table(alloc, &table, sink),
         Err(HeardError::OutOfMemory) => Status::OutOfMemory,
-        Err(HeardError::Bad { at }) => refuse_stream(alloc, at, sink),
+        Err(HeardError::Bad { at }) => refuse(alloc, Status::BadStream(at as u64), sink),
     }
 }

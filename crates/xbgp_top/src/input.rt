@@ -1,11 +1,21 @@
+//! Inputs that are read whole, up to their limit.
+//!
+//! A shelf is read by pieces until a read gives nothing, or until the input has more octets than its limit; nothing is
+//! judged before. The octets that were read are a front of the file at each turn of the loop.
 ghost use Rattle.std.specs.Prelude.{◌≡◌, ◌<◌, length, IfErr, IfOk, OnOk};
-ghost use Rattle.xbgp_top.specs.Inputs.{IsUnread, IsWhole};
+ghost use Rattle.xbgp_top.specs.Answers.{input};
+ghost use Rattle.xbgp_top.specs.Inputs.{IsUnread, IsWhole, Obtains, unread_status};
+ghost use Rattle.xbgp_top.specs.Views.{octets_view};
 
-use std::alloc::{AllocError, Global};
+use crate::{File, Status};
+use std::alloc::Global;
 use xb_io::Shelf;
+use xb_words::zeros;
 
-const INPUT_LIMIT: usize = 1_048_576;
+/// The most octets of an input.
+pub(crate) const INPUT_LIMIT: usize = 1_048_576;
 
+// How many octets are read at once.
 const PIECE: usize = 65_536;
 
 /// Why an input was not read.
@@ -16,13 +26,18 @@ pub(crate) enum Unread {
     OutOfMemory,
 }
 
-fn zeros(alloc: Global, count: usize) -> Result<Vec<u8>, AllocError>
-    ensures { IfOk result (λ v. length v.items ≡ count) }
+// The status of an input that was not read.
+fn unread_status(file: File, why: Unread) -> Status
+    ensures { result ≡ unread_status file why }
 {
-    vec![in alloc; 0u8; count]
+    match why {
+        Unread::Long => Status::TooLong(file),
+        Unread::Fault => Status::ReadFault,
+        Unread::OutOfMemory => Status::OutOfMemory,
+    }
 }
 
-// Reads an input by pieces to its end, or to a place past the limit.
+// Reads an input by pieces, to its end or past the limit.
 fn read_pieces<S: Shelf>(
     alloc: Global,
     shelf: &mut S,
@@ -33,7 +48,10 @@ fn read_pieces<S: Shelf>(
     ensures whole { IfOk result (λ octets. IsWhole (S.held shelf.old) name.now octets.items) }
     ensures same { OnOk result (S.faults shelf.new ≡ S.faults shelf.old) }
     ensures held { S.held shelf.new ≡ S.held shelf.old }
-    ensures unread { IfErr result (λ why. IsUnread (S.held shelf.old) name.now (S.faults shelf.old) (S.faults shelf.new) why) }
+    ensures unread {
+        let before = S.faults shelf.old in
+        IfErr result (λ why. IsUnread (S.held shelf.old) name.now before (S.faults shelf.new) why)
+    }
 {
     let mut input = Vec::new(alloc);
     'pieces: while input.len() <= INPUT_LIMIT {
@@ -50,19 +68,18 @@ fn read_pieces<S: Shelf>(
     Err(Unread::Long)
 }
 
-/// Reads an input to its end, or to a place past the limit.
+/// Reads an input whole. `file` says which it is, for the status of one that is too long.
 pub(crate) fn read_input<S: Shelf>(
     alloc: Global,
-    shelf: &mut S,
+    file: File,
     name: &str,
-) -> Result<Vec<u8>, Unread>
-    ensures whole { IfOk result (λ octets. IsWhole (S.held shelf.old) name.now octets.items) }
-    ensures same { OnOk result (S.faults shelf.new ≡ S.faults shelf.old) }
-    ensures held { S.held shelf.new ≡ S.held shelf.old }
-    ensures unread { IfErr result (λ why. IsUnread (S.held shelf.old) name.now (S.faults shelf.old) (S.faults shelf.new) why) }
+    shelf: &mut S,
+) -> Result<Vec<u8>, Status>
+    ensures { Obtains S.held S.faults shelf.old shelf.new (input file name.now) (octets_view result) }
 {
-    match zeros(alloc, PIECE) {
-        Ok(mut piece) => read_pieces(alloc, shelf, name, &mut piece),
-        Err(_) => Err(Unread::OutOfMemory),
+    let mut piece = zeros(alloc, PIECE)?;
+    match read_pieces(alloc, shelf, name, &mut piece) {
+        Ok(octets) => Ok(octets),
+        Err(why) => Err(unread_status(file, why)),
     }
 }

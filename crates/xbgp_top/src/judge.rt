@@ -1,24 +1,33 @@
-ghost use Rattle.std.specs.Prelude.{◌≡◌, ◌≤◌, ◌++◌, ◌∷◌, [], codes, decimal, flat_map, length, OnOk};
+//! The command `judge`: the verdict on each message of a stream, a line for each.
+ghost use Rattle.std.specs.Prelude.{◌≡◌, ◌≤◌, ◌++◌, ◌∷◌, [], codes, decimal, length, OnOk};
 ghost use Rattle.xb_values.specs.Texts.{hex_text, line as line_of};
-ghost use Rattle.xbgp_top.specs.Answers.{answered, end_line, judge_answer, judge_line, messages_of, place_of_rest};
+ghost use Rattle.xbgp_top.specs.Answers.{answered, end_line, ended, judge_line, judge_lines, judge_outcome, rest_offset};
 ghost use Rattle.xbgp_top.specs.Outputs.{Gathers, Writes};
-ghost use Rattle.xbgp_top.specs.Met.{met};
+ghost use Rattle.xbgp_top.specs.Views.{message_view};
 
 use crate::Status;
-use crate::output::{LINE, PAGE, begin_line, gather_text, refuse_stream, say};
+use crate::output::{LINE, PAGE, begin_line, gather_text, refuse, write_page};
 use bgp_check::check_update;
 use bgp_update::{Messages, Msg};
 use std::alloc::{AllocError, Global};
 use xb_io::Sink;
-use xb_values::{Buf, push_decimal, push_hex};
+use xb_values::{Buf, append_decimal, append_hex};
 use xb_wire::Notice;
+use xb_wire::numbers::UPDATE;
 
-const UPDATE: u8 = 2;
+// The most octets of a short word.
+const WORD: usize = 20;
 
-// Where the stream has something that is no message.
+// Room in a line for an offset, a short word and what separates them.
+const AROUND_WORD: usize = 64;
+
+// Room in a line for all but the digits of a notice's data.
+const AROUND_DATA: usize = 80;
+
+// The offset of what is left of a stream after its messages.
 #[tactic(auto, using(crate::proofs::JudgeLemmas::first_rest))]
 fn refused_at(octets: &[u8]) -> Option<usize>
-    ensures { result ≡ place_of_rest octets.now }
+    ensures { result ≡ rest_offset octets.now }
 {
     let mut messages = Messages::new(octets);
     'messages: while let Some(next) = messages.next() {
@@ -29,44 +38,48 @@ fn refused_at(octets: &[u8]) -> Option<usize>
     None
 }
 
-// Writes a place and a short word.
+// Writes an offset and a short word.
 fn write_word(alloc: Global, line: &mut Buf, at: usize, word: &[u8]) -> Result<(), AllocError>
-    requires { length word.now ≤ 20 }
+    requires { length word.now ≤ WORD }
     ensures { OnOk result (line.new.octets ≡ line_of (decimal at ∷ word.now ∷ [])) }
 {
-    begin_line(alloc, line, 64)?;
-    let _ = push_decimal(line, at as u64);
-    let _ = line.push(b" ");
-    let _ = line.push(word);
-    let _ = line.push(b"\n");
+    begin_line(alloc, line, AROUND_WORD)?;
+    append_decimal(line, at as u64);
+    line.append(b" ");
+    line.append(word);
+    line.append(b"\n");
     Ok(())
 }
 
-// Writes a place and a notice.
+// Writes an offset and a notice.
 fn write_notice(
     alloc: Global,
     line: &mut Buf,
     at: usize,
     notice: &Notice<'_>,
 ) -> Result<(), AllocError>
-    ensures { OnOk result (line.new.octets ≡ line_of (decimal at ∷ codes "notice" ∷ decimal notice.now.code ∷ decimal notice.now.subcode ∷ hex_text notice.now.extra.now ∷ [])) }
+    ensures {
+        let digits = hex_text notice.now.extra.now in
+        let words = codes "notice" ∷ decimal notice.now.code ∷ decimal notice.now.subcode ∷ digits ∷ [] in
+        OnOk result (line.new.octets ≡ line_of (decimal at ∷ words))
+    }
 {
     let digits = notice.extra.len().checked_mul(2).ok_or(AllocError)?;
-    begin_line(alloc, line, digits.checked_add(80).ok_or(AllocError)?)?;
-    let _ = push_decimal(line, at as u64);
-    let _ = line.push(b" notice ");
-    let _ = push_decimal(line, u64::from(notice.code));
-    let _ = line.push(b" ");
-    let _ = push_decimal(line, u64::from(notice.subcode));
-    let _ = line.push(b" ");
-    let _ = push_hex(line, notice.extra);
-    let _ = line.push(b"\n");
+    begin_line(alloc, line, digits.checked_add(AROUND_DATA).ok_or(AllocError)?)?;
+    append_decimal(line, at as u64);
+    line.append(b" notice ");
+    append_decimal(line, u64::from(notice.code));
+    line.append(b" ");
+    append_decimal(line, u64::from(notice.subcode));
+    line.append(b" ");
+    append_hex(line, notice.extra);
+    line.append(b"\n");
     Ok(())
 }
 
 // Writes the verdict on a message.
 fn write_verdict(alloc: Global, line: &mut Buf, message: &Msg<'_>) -> Result<(), AllocError>
-    ensures { OnOk result (line.new.octets ≡ judge_line (met message.now)) }
+    ensures { OnOk result (line.new.octets ≡ judge_line (message_view message.now)) }
 {
     if message.kind != UPDATE {
         return write_word(alloc, line, message.at, b"other");
@@ -77,22 +90,6 @@ fn write_verdict(alloc: Global, line: &mut Buf, message: &Msg<'_>) -> Result<(),
     }
 }
 
-// Gathers the verdict on a message on a page.
-fn gather_verdict<K: Sink>(
-    alloc: Global,
-    line: &mut Buf,
-    message: &Msg<'_>,
-    page: &mut Buf,
-    sink: &mut K,
-) -> Result<(), Status>
-    ensures { Gathers (K.took sink.old) (K.took sink.new) page.old.octets page.new.octets (judge_line (met message.now)) (K.faults sink.old) (K.faults sink.new) result }
-{
-    match write_verdict(alloc, line, message) {
-        Ok(()) => gather_text(page, line.as_slice(), sink),
-        Err(_) => Err(Status::OutOfMemory),
-    }
-}
-
 // Gathers the verdicts on all messages on a page.
 fn gather_verdicts<K: Sink>(
     alloc: Global,
@@ -100,53 +97,42 @@ fn gather_verdicts<K: Sink>(
     page: &mut Buf,
     sink: &mut K,
 ) -> Result<(), Status>
-    ensures { Gathers (K.took sink.old) (K.took sink.new) page.old.octets page.new.octets (flat_map judge_line (messages_of octets.now)) (K.faults sink.old) (K.faults sink.new) result }
+    ensures { Gathers K.took K.faults sink.old sink.new page.old.octets page.new.octets (judge_lines octets.now) result }
 {
-    let Ok(mut line) = Buf::make(alloc, LINE) else {
-        return Err(Status::OutOfMemory);
-    };
+    let mut line = Buf::make(alloc, LINE)?;
     let mut messages = Messages::new(octets);
     'messages: while let Some(next) = messages.next() {
         let Ok(message) = next else {
             return Ok(());
         };
-        gather_verdict(alloc, &mut line, &message, page, sink)?;
+        write_verdict(alloc, &mut line, &message)?;
+        gather_text(page, line.as_slice(), sink)?;
     }
     Ok(())
 }
 
-// Gathers the verdicts and the end on a page.
-fn gather_answer<K: Sink>(
-    alloc: Global,
-    octets: &[u8],
-    page: &mut Buf,
-    sink: &mut K,
-) -> Result<(), Status>
-    ensures { Gathers (K.took sink.old) (K.took sink.new) page.old.octets page.new.octets (flat_map judge_line (messages_of octets.now) ++ end_line) (K.faults sink.old) (K.faults sink.new) result }
-{
-    gather_verdicts(alloc, octets, page, sink)?;
-    gather_text(page, b"end\n", sink)
-}
-
-// Writes the verdicts, a line for each message, and the end.
+// Writes the verdicts and the last line.
 fn print_verdicts<K: Sink>(alloc: Global, octets: &[u8], sink: &mut K) -> Status
-    ensures { Writes (answered Status.Done (flat_map judge_line (messages_of octets.now) ++ end_line)) (K.took sink.old) (K.took sink.new) (K.faults sink.old) (K.faults sink.new) result }
+    ensures {
+        let text = judge_lines octets.now ++ end_line in
+        Writes (answered Status.Done text) K.took K.faults sink.old sink.new result
+    }
 {
     let Ok(mut page) = Buf::make(alloc, PAGE) else {
         return Status::OutOfMemory;
     };
-    match gather_answer(alloc, octets, &mut page, sink) {
-        Ok(()) => say(sink, page.as_slice(), Status::Done),
+    match gather_verdicts(alloc, octets, &mut page, sink) {
+        Ok(()) => write_page(&mut page, sink),
         Err(status) => status,
     }
 }
 
-/// Writes the verdict on each message of a stream, or where the stream is refused.
+/// Writes the verdict on each message of a stream, or the offset of what is left after its messages.
 pub(crate) fn print_judged<K: Sink>(alloc: Global, octets: &[u8], sink: &mut K) -> Status
-    ensures { Writes (judge_answer octets.now) (K.took sink.old) (K.took sink.new) (K.faults sink.old) (K.faults sink.new) result }
+    ensures { Writes (ended (judge_outcome octets.now)) K.took K.faults sink.old sink.new result }
 {
     match refused_at(octets) {
-        Some(at) => refuse_stream(alloc, at, sink),
+        Some(at) => refuse(alloc, Status::BadStream(at as u64), sink),
         None => print_verdicts(alloc, octets, sink),
     }
 }

@@ -1,7 +1,14 @@
 //! The one call that does all that the program `xbgp` does: `run`.
 //!
-//! It stands on all crates below. `specs/Answers` says what the program answers to its words, from the files that are
-//! held: a status and a text. `run` gives that answer over any shelf and any sink, and each other answer only with its cause.
+//! Words and files come in by a list of words and a shelf; text goes out to a sink, and the status is returned. `run`
+//! finds the command, and each command has a module: `check` and `exec` make their whole text and leave it to be
+//! written once, `hear` and `judge` write theirs by pages. Reading comes before writing: an input is read whole before
+//! it is judged, and what may be refused is refused before any text is written. So a step over the shelf gives a value
+//! or the status that ends the command, and a step over the sink writes a text or the line of that status.
+//!
+//! `specs/Answers` says what the program answers to its words, from the files that are held: a status and a text. `run`
+//! gives that answer over any shelf and any sink, and each other answer only with its cause. What the files hold is
+//! judged by the crates below, and the words of a program's failure are `table_print`'s.
 #![tactic(auto)]
 
 mod check;

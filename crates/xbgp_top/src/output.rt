@@ -1,12 +1,17 @@
-ghost use Rattle.std.specs.Prelude.{◌≡◌, ◌≢◌, ◌≤◌, ◌++◌, [], ◌∷◌, codes, decimal, IfOk, OnOk};
-ghost use Rattle.xbgp_top.specs.Answers.{answered, bad_stream, fault_line, long_answer};
-ghost use Rattle.xbgp_top.specs.Outputs.{Gathers, Stopped, Writes};
+//! The end of a run: a text or the line of a status is written, and the status says how that went.
+ghost use Rattle.std.specs.Prelude.{◌≡◌, ◌⊎◌, ◌+◌, ◌≤◌, ◌++◌, ◌∷◌, [], length, decimal, Err, IfOk, OnOk};
+ghost use Rattle.xb_values.specs.Texts.{spaced};
+ghost use Rattle.xbgp_top.specs.Answers.{answered, end_line, ended, fault_text};
+ghost use Rattle.xbgp_top.specs.Outputs.{Gathers, Writes};
+ghost use Rattle.xbgp_top.specs.Views.{text_view};
+ghost use Rattle.xbgp_top.specs.Words.{kind_word, part_word};
 
-use crate::input::Unread;
-use crate::{File, Status};
+use crate::Status;
+use crate::word::{file_word, kind_word, load_word, part_word};
 use std::alloc::{AllocError, Global};
+use xb_domain::{BadKind, Part};
 use xb_io::{Sink, gather};
-use xb_values::{Buf, push_decimal};
+use xb_values::{Buf, append_decimal};
 
 /// How many octets go to the sink at once.
 pub(crate) const PAGE: usize = 65_536;
@@ -14,10 +19,16 @@ pub(crate) const PAGE: usize = 65_536;
 /// Room for most lines; a longer line gets more.
 pub(crate) const LINE: usize = 1_024;
 
-/// Puts a text, and answers the status unless the sink fails.
-pub(crate) fn say<K: Sink>(sink: &mut K, text: &[u8], status: Status) -> Status
-    requires { status ≢ Status.WriteFault }
-    ensures { Writes (answered status text.now) (K.took sink.old) (K.took sink.new) (K.faults sink.old) (K.faults sink.new) result }
+/// The line of Usage.
+pub(crate) const USAGE_LINE: &[u8] = b"fault usage\n";
+
+// Room for the line of any status: at most five words of 8 octets and two numbers of 10.
+const FAULT_ROOM: usize = 96;
+
+/// Writes a text, and returns `status` unless the sink fails.
+pub(crate) fn write_all<K: Sink>(sink: &mut K, text: &[u8], status: Status) -> Status
+    ensures writes { Writes (answered status text.now) K.took K.faults sink.old sink.new result }
+    ensures either { (result ≡ status) ⊎ (result ≡ Status.WriteFault) }
 {
     match sink.put(text) {
         Ok(()) => status,
@@ -25,25 +36,91 @@ pub(crate) fn say<K: Sink>(sink: &mut K, text: &[u8], status: Status) -> Status
     }
 }
 
-// The line that says that an input is too long.
-fn long_line(file: File) -> &'static [u8]
-    ensures { result.now ≡ (long_answer file).text }
+// Appends what is wrong, in which part and at which entry.
+fn append_entry(line: &mut Buf, kind: BadKind, part: Part, index: u32)
+    requires { length line.old.octets + 40 ≤ line.old.capacity }
+    ensures entry {
+        let words = spaced (kind_word kind ∷ part_word part ∷ decimal index ∷ []) in
+        line.new ≡ record line.old { octets = line.old.octets ++ words }
+    }
+    ensures grown { length line.new.octets ≤ length line.old.octets + 40 }
 {
-    match file {
-        File::Input => b"fault long input\n",
-        File::Config => b"fault long config\n",
-        File::Manifest => b"fault long manifest\n",
+    line.append(kind_word(kind));
+    line.append(b" ");
+    line.append(part_word(part));
+    line.append(b" ");
+    append_decimal(line, u64::from(index));
+}
+
+// The line of a status, or nothing for a status that has none.
+fn fault_text(alloc: Global, status: Status) -> Result<Buf, AllocError>
+    ensures { IfOk result (λ line. line.octets ≡ fault_text status) }
+{
+    let mut line = Buf::make(alloc, FAULT_ROOM)?;
+    match status {
+        Status::Usage => line.append(USAGE_LINE),
+        Status::TooLong(file) => {
+            line.append(b"fault long ");
+            line.append(file_word(file));
+            line.append(b"\n");
+        }
+        Status::BadConfig(fault) => {
+            line.append(b"fault config ");
+            append_entry(&mut line, fault.kind, fault.part, fault.index);
+            line.append(b"\n");
+        }
+        Status::BadManifest(fault) => {
+            line.append(b"fault manifest ");
+            append_entry(&mut line, fault.kind, fault.part, fault.index);
+            line.append(b" ");
+            append_decimal(&mut line, u64::from(fault.slot));
+            line.append(b"\n");
+        }
+        Status::BadStream(at) => {
+            line.append(b"fault stream ");
+            append_decimal(&mut line, at);
+            line.append(b"\n");
+        }
+        Status::BadCode(fault) => {
+            line.append(b"fault code ");
+            line.append(load_word(fault.kind));
+            line.append(b" ");
+            append_decimal(&mut line, u64::from(fault.slot));
+            line.append(b"\n");
+        }
+        Status::Done | Status::ReadFault | Status::WriteFault | Status::OutOfMemory => {}
+    }
+    Ok(line)
+}
+
+/// Writes the line of a status, and returns that status unless its line can't be written. After a fault of the shelf or
+/// want of memory nothing is written.
+pub(crate) fn refuse<K: Sink>(alloc: Global, status: Status, sink: &mut K) -> Status
+    ensures writes { Writes (ended (Err status)) K.took K.faults sink.old sink.new result }
+    ensures read { status ≡ Status.ReadFault → result ≡ Status.ReadFault }
+{
+    match status {
+        Status::ReadFault | Status::OutOfMemory => return status,
+        _ => {}
+    }
+    match fault_text(alloc, status) {
+        Ok(line) => write_all(sink, line.as_slice(), status),
+        Err(_) => Status::OutOfMemory,
     }
 }
 
-/// Answers that an input was not read.
-pub(crate) fn not_read<K: Sink>(file: File, why: Unread, sink: &mut K) -> Status
-    ensures { Stopped file why (K.took sink.old) (K.took sink.new) (K.faults sink.old) (K.faults sink.new) result }
+/// Writes a text, or the line of the status that ended a command before it had one.
+pub(crate) fn print_text<K: Sink>(
+    alloc: Global,
+    text: Result<Buf, Status>,
+    sink: &mut K,
+) -> Status
+    ensures writes { Writes (ended (text_view text)) K.took K.faults sink.old sink.new result }
+    ensures read { text ≡ Err Status.ReadFault → result ≡ Status.ReadFault }
 {
-    match why {
-        Unread::Long => say(sink, long_line(file), Status::TooLong(file)),
-        Unread::Fault => Status::ReadFault,
-        Unread::OutOfMemory => Status::OutOfMemory,
+    match text {
+        Ok(text) => write_all(sink, text.as_slice(), Status::Done),
+        Err(status) => refuse(alloc, status, sink),
     }
 }
 
@@ -59,33 +136,22 @@ pub(crate) fn begin_line(alloc: Global, line: &mut Buf, capacity: usize) -> Resu
     Ok(())
 }
 
-// The line of a stream that is refused.
-fn refusal(alloc: Global, at: u64) -> Result<Buf, AllocError>
-    ensures { IfOk result (λ line. line.octets ≡ fault_line (codes "stream" ∷ decimal at ∷ [])) }
-{
-    let mut line = Buf::make(alloc, 64)?;
-    let _ = line.push(b"fault stream ");
-    let _ = push_decimal(&mut line, at);
-    let _ = line.push(b"\n");
-    Ok(line)
-}
-
-/// Says that a stream is refused.
-pub(crate) fn refuse_stream<K: Sink>(alloc: Global, at: usize, sink: &mut K) -> Status
-    ensures { Writes (bad_stream at) (K.took sink.old) (K.took sink.new) (K.faults sink.old) (K.faults sink.new) result }
-{
-    match refusal(alloc, at as u64) {
-        Ok(line) => say(sink, line.as_slice(), Status::BadStream(at as u64)),
-        Err(_) => Status::OutOfMemory,
-    }
-}
-
 /// Gathers a text on a page.
 pub(crate) fn gather_text<K: Sink>(page: &mut Buf, text: &[u8], sink: &mut K) -> Result<(), Status>
-    ensures { Gathers (K.took sink.old) (K.took sink.new) page.old.octets page.new.octets text.now (K.faults sink.old) (K.faults sink.new) result }
+    ensures { Gathers K.took K.faults sink.old sink.new page.old.octets page.new.octets text.now result }
 {
     match gather(page, text, sink) {
         Ok(()) => Ok(()),
         Err(_) => Err(Status::WriteFault),
+    }
+}
+
+/// Adds the last line to a page, and writes the page.
+pub(crate) fn write_page<K: Sink>(page: &mut Buf, sink: &mut K) -> Status
+    ensures { Writes (answered Status.Done (page.old.octets ++ end_line)) K.took K.faults sink.old sink.new result }
+{
+    match gather_text(page, b"end\n", sink) {
+        Ok(()) => write_all(sink, page.as_slice(), Status::Done),
+        Err(status) => status,
     }
 }

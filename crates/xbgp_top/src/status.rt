@@ -1,9 +1,12 @@
+//! How a run ended: a status, the number with which the process ends, and the status that each error becomes.
 ghost use Rattle.std.specs.Prelude.{◌≡◌};
-ghost use Rattle.xbgp_top.specs.Codes.{code_of};
+ghost use Rattle.xbgp_top.specs.Statuses.{config_status, load_status, manifest_status, status_code};
+ghost use Rattle.xbgp_top.specs.declared.status.Status.TheVariants.{OutOfMemory};
 
-use bpf_insn::LoadFault;
-use xbgp_config::ConfigFault;
-use xbgp_manifest::ManifestFault;
+use bpf_insn::{LoadError, LoadFault};
+use std::alloc::AllocError;
+use xbgp_config::{ConfigError, ConfigFault};
+use xbgp_manifest::{ManifestError, ManifestFault};
 
 /// An input that has a limit.
 #[derive(Clone, Copy, Debug, PartialEq, Eq)]
@@ -42,7 +45,7 @@ pub enum Status {
 impl Status {
     /// The number with which the process ends.
     pub fn code(&self) -> u8
-        ensures { result ≡ code_of self.now }
+        ensures { result ≡ status_code self.now }
     {
         match self {
             Status::Done => 0,
@@ -55,6 +58,47 @@ impl Status {
             Status::TooLong(_) => 9,
             Status::BadStream(_) => 10,
             Status::BadCode(_) => 11,
+        }
+    }
+}
+
+impl From<AllocError> for Status {
+    ghost from_gives = { λ _ s. s ≡ OutOfMemory };
+
+    fn from(_error: AllocError) -> Status {
+        Status::OutOfMemory
+    }
+}
+
+impl From<ConfigError> for Status {
+    ghost from_gives = { λ e s. s ≡ config_status e };
+
+    fn from(error: ConfigError) -> Status {
+        match error {
+            ConfigError::OutOfMemory => Status::OutOfMemory,
+            ConfigError::Bad(fault) => Status::BadConfig(fault),
+        }
+    }
+}
+
+impl From<ManifestError> for Status {
+    ghost from_gives = { λ e s. s ≡ manifest_status e };
+
+    fn from(error: ManifestError) -> Status {
+        match error {
+            ManifestError::OutOfMemory => Status::OutOfMemory,
+            ManifestError::Bad(fault) => Status::BadManifest(fault),
+        }
+    }
+}
+
+impl From<LoadError> for Status {
+    ghost from_gives = { λ e s. s ≡ load_status e };
+
+    fn from(error: LoadError) -> Status {
+        match error {
+            LoadError::OutOfMemory => Status::OutOfMemory,
+            LoadError::Bad(fault) => Status::BadCode(fault),
         }
     }
 }

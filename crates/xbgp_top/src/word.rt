@@ -1,8 +1,9 @@
+//! The words in which faults are printed.
 ghost use Rattle.std.specs.Prelude.{◌≡◌, ◌≤◌, length};
-ghost use Rattle.xbgp_top.specs.Words.{cause_word, kind_word, load_word, part_word};
+ghost use Rattle.xbgp_top.specs.Words.{file_word, kind_word, load_word, part_word};
 
+use crate::File;
 use bpf_insn::LoadKind;
-use bpf_machine::Cause;
 use xb_domain::{BadKind, Part};
 use xbgp_manifest::kind_of;
 
@@ -33,7 +34,7 @@ pub(crate) fn kind_word(kind: BadKind) -> &'static [u8]
     }
 }
 
-/// The word for the part in which a fault stands.
+/// The word for the part that has a fault.
 pub(crate) fn part_word(part: Part) -> &'static [u8]
     ensures word { result.now ≡ part_word part }
     ensures short { length result.now ≤ 7 }
@@ -57,16 +58,14 @@ pub(crate) fn load_word(kind: LoadKind) -> &'static [u8]
     kind_word(kind_of(kind))
 }
 
-/// The word for why a program failed.
-pub(crate) fn cause_word(cause: Cause) -> &'static [u8]
-    ensures word { result.now ≡ cause_word cause }
-    ensures short { length result.now ≤ 6 }
+/// The word for an input.
+pub(crate) fn file_word(file: File) -> &'static [u8]
+    ensures word { result.now ≡ file_word file }
+    ensures short { length result.now ≤ 8 }
 {
-    match cause {
-        Cause::Memory => b"memory",
-        Cause::Fuel => b"fuel",
-        Cause::Misuse => b"misuse",
-        Cause::BadReturn => b"return",
-        Cause::BadOutput => b"output",
+    match file {
+        File::Input => b"input",
+        File::Config => b"config",
+        File::Manifest => b"manifest",
     }
 }

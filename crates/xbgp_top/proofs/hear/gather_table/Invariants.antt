@@ -5,7 +5,7 @@ use Rattle.xb_values.specs.Prefixes.{prefix_cmp}
 use Rattle.xbgp_top.specs.Answers.{table_lines}
 use Rattle.xbgp_top.proofs.hear.gather_table.Given as goal
 
--- the lines so far are gathered, and those of the entries behind the last one are still to come
+-- the lines so far are gathered, and those of the entries after the last one are still to come
 abbrev pub invariant-entries : goal.invariant-entries
 invariant-entries g l = record {
   gathered : Gathered (g.K.Sink.took l.fn.sink) (g.K.Sink.took l.sink) (l.fn.page.octets ++ table_lines l.table) l.page.octets (table_lines (behind prefix_cmp l.table l.last));

@@ -1,5 +1,5 @@
 use Rattle.std.proofs.Common.{◌≡◌, ◌∙◌, length, arith}
-use Rattle.xbgp_top.proofs.InputLemmas.{read_on}
+use Rattle.xbgp_top.proofs.InputLemmas.{IsFront-append}
 use Rattle.xbgp_top.proofs.input.read_pieces.Goals as goal
 
 pub pieces-preserved : goal.pieces-preserved
@@ -8,6 +8,6 @@ pieces-preserved g c =
     record {
       held = c.read.ensures.same ∙ c.pieces.invariant.held;
       faults = c.in-Ok.ensures.quiet ∙ c.pieces.invariant.faults;
-      front = read_on _ _ _ c.pieces.input.items _ _ _ _ _ c.pieces.invariant.held at c.pieces.invariant.front c.in-Ok.ensures.read
+      front = IsFront-append _ _ _ c.pieces.input.items _ _ _ _ _ c.pieces.invariant.held at c.pieces.invariant.front c.in-Ok.ensures.read
           c.if-is_err.ensures.negation c.extend_from_slice.ensures.items;
     }

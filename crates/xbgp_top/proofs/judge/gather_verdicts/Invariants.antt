@@ -1,13 +1,13 @@
-use Rattle.std.proofs.Common.{◌≡◌, ◌++◌, length, flat_map}
+use Rattle.std.proofs.Common.{◌≡◌, ◌++◌, length}
 use Rattle.xb_io.specs.Pages.{Gathered}
-use Rattle.xbgp_top.specs.Answers.{judge_line, messages_of}
+use Rattle.xbgp_top.specs.Answers.{judge_lines}
 use Rattle.xbgp_top.proofs.JudgeLemmas.{lines_of}
 use Rattle.xbgp_top.proofs.judge.gather_verdicts.Given as goal
 
 -- the lines so far are gathered, and those of the messages that are left are still to come
 abbrev pub invariant-messages : goal.invariant-messages
 invariant-messages g l = record {
-  gathered : Gathered (g.K.Sink.took l.fn.sink) (g.K.Sink.took l.sink) (l.fn.page.octets ++ flat_map judge_line (messages_of l.octets)) l.page.octets (lines_of l.messages);
+  gathered : Gathered (g.K.Sink.took l.fn.sink) (g.K.Sink.took l.sink) (l.fn.page.octets ++ judge_lines l.octets) l.page.octets (lines_of l.messages);
   quiet : g.K.Sink.faults l.sink ≡ g.K.Sink.faults l.fn.sink;
 }
 
