@@ -1,7 +1,7 @@
 -- What is left behind the segments of a value.
 use Rattle.std.proofs.Common.{◌≡◌, ap, ℕ, List, drop, Some, None}
 use Rattle.xb_words.specs.Cut.{Pieces, cut}
-use Rattle.xb_words.proofs.Cutting.{cut-some, cut-none}
+use Rattle.xb_words.proofs.CutLemmas.{cut-some, cut-none}
 use Rattle.bgp_attr.specs.Paths.{segment_size}
 use Rattle.bgp_attr.proofs.Sizes.{segment_is_size}
 

@@ -5,20 +5,20 @@ use Rattle.std.proofs.Math.Seq.{take-length}
 use Rattle.std.specs.Prelude.{Ok, Err}
 use Rattle.std.specs.List.{concat, AllByRecursion}
 use Rattle.xb_words.specs.Cut.{cut, walk, walk_from}
-use Rattle.xb_words.proofs.Cutting.{cut-join, cut-rest}
-use Rattle.xb_words.proofs.Walking.{walk-some, walk-error, walk-nil}
+use Rattle.xb_words.proofs.CutLemmas.{concat-cut, size-cut-rest}
+use Rattle.xb_words.proofs.CutLemmas.{walk_from-some, walk_from-error, walk_from-nil}
 use Rattle.bgp_attr.specs.Attributes.{attribute_size}
 use Rattle.bgp_attr.specs.Walks.{found, overrun, attributes_from, raws, end_of, StandsIn, attributes_join, attributes_stand}
 use Rattle.bgp_attr.proofs.Sizes.{attribute_is_size}
 
 pub attributes_some : (at : ℕ) (s : List ℕ) (n : ℕ) → attribute_size s ≡ Some n → attributes_from at s ≡ Ok (found at (take n s)) ∷ attributes_from (at + n) (drop n s)
-attributes_some = walk-some attribute_size attribute_is_size found overrun
+attributes_some = walk_from-some attribute_size attribute_is_size found overrun
 
 pub attributes_overrun : (at : ℕ) (s : List ℕ) → attribute_size s ≡ None → 0 < length s → attributes_from at s ≡ Err (overrun at) ∷ []
-attributes_overrun = walk-error attribute_size attribute_is_size found overrun
+attributes_overrun = walk_from-error attribute_size attribute_is_size found overrun
 
 pub attributes_nil : (at : ℕ) (s : List ℕ) → length s ≡ 0 → attributes_from at s ≡ []
-attributes_nil = walk-nil attribute_size attribute_is_size found overrun
+attributes_nil = walk_from-nil attribute_size attribute_is_size found overrun
 
 -- the octets that a walk gives are those of its items
 raws-walk : (at : ℕ) (xs : List (List ℕ)) (rest : List ℕ) → raws (walk found overrun at xs rest) ≡ concat xs
@@ -40,7 +40,7 @@ pub attributes_join_holds : attributes_join
 unfolding walk_from
 attributes_join_holds section =
     let p = cut attribute_size section in
-    raws-walk 0 p.items p.rest ∙ sym (front_is section [] p.items p.rest 0 refl (cut-join attribute_size section))
+    raws-walk 0 p.items p.rest ∙ sym (front_is section [] p.items p.rest 0 refl (concat-cut attribute_size section))
 
 stands : (s before : List ℕ) (xs : List (List ℕ)) (rest : List ℕ) (at : ℕ) → length before ≡ at → before ++ (concat xs ++ rest) ≡ s
     → attribute_size rest ≡ None → AllByRecursion (StandsIn s) (walk found overrun at xs rest)
@@ -58,4 +58,4 @@ pub attributes_stand_holds : attributes_stand
 unfolding walk_from
 attributes_stand_holds section =
     let p = cut attribute_size section in
-    stands section [] p.items p.rest 0 refl (cut-join attribute_size section) (cut-rest attribute_size attribute_is_size section)
+    stands section [] p.items p.rest 0 refl (concat-cut attribute_size section) (size-cut-rest attribute_size attribute_is_size section)
