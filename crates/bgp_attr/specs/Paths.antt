@@ -9,7 +9,8 @@ use Rattle.bgp_attr.specs.declared.segments.TheConstants.{AS_SET, AS_SEQUENCE, M
 -- the length of the segment at the front, its type and count included; None if no whole segment is there
 abbrev pub segment_size : ℕ → List ℕ → Option ℕ
 segment_size w s =
-    if (slice_index s 0 == AS_SET || slice_index s 0 == AS_SEQUENCE) && nat_le 1 (slice_index s 1) && nat_le (2 + w * slice_index s 1) (length s)
+    if (slice_index s 0 == AS_SET || slice_index s 0 == AS_SEQUENCE) && nat_le 1 (slice_index s 1)
+    && nat_le (2 + w * slice_index s 1) (length s)
     then Some (2 + w * slice_index s 1) else None
 
 -- segments fill the value
@@ -44,7 +45,8 @@ path w value = map (segment_of w) (cut (segment_size w) value).items
 
 -- the octets of a segment
 abbrev pub segment_octets : ℕ → Segment → List ℕ
-segment_octets w s = (if s.is_set then AS_SET else AS_SEQUENCE) ∷ length s.numbers ∷ flat_map (number_octets w) s.numbers
+segment_octets w s =
+    (if s.is_set then AS_SET else AS_SEQUENCE) ∷ length s.numbers ∷ flat_map (number_octets w) s.numbers
 
 -- the value that has these segments
 abbrev pub path_octets : ℕ → List Segment → List ℕ
@@ -72,5 +74,6 @@ leftmost (s ∷ segments) = if s.is_set then None else Some (slice_index s.numbe
 abbrev pub prepend : ℕ → List Segment → List Segment
 prepend asn [] = record { is_set = false; numbers = asn ∷ [] } ∷ []
 prepend asn (s ∷ segments) =
-    if s.is_set || nat_le MAX_NUMBERS (length s.numbers) then record { is_set = false; numbers = asn ∷ [] } ∷ s ∷ segments
+    if s.is_set || nat_le MAX_NUMBERS (length s.numbers)
+    then record { is_set = false; numbers = asn ∷ [] } ∷ s ∷ segments
     else record { is_set = false; numbers = asn ∷ s.numbers } ∷ segments

@@ -1,5 +1,5 @@
--- A neutral route: flags and a value for some attribute codes, by rising code, and its canonical section (this project's
--- own).
+-- A neutral route: flags and a value for some attribute codes, by rising code, and its canonical section (this
+-- project's own).
 use Rattle.std.specs.Prelude.{◌≡◌, ℕ, ◌+◌, ◌<◌, ◌≤◌, List, [], ◌∷◌, ◌++◌, length, flat_map, fold, Option, nat_lt, bit_and, if◌then◌else◌}
 use Rattle.std.specs.Map.{keys_of}
 use Rattle.std.specs.List.{AllByRecursion}
@@ -34,7 +34,8 @@ attribute_at route code = value_at nat_cmp route code
 
 -- the route with an attribute set, and with one removed
 abbrev pub with_attribute : Route → ℕ → ℕ → List ℕ → Route
-with_attribute route code flags value = with_value nat_cmp route code (record { flags = kept_flags flags; value = value })
+with_attribute route code flags value =
+    with_value nat_cmp route code (record { flags = kept_flags flags; value = value })
 
 abbrev pub without_attribute : Route → ℕ → Route
 without_attribute route code = without nat_cmp route code
@@ -49,7 +50,8 @@ route_of section = neutral (attributes section)
 -- the octets of an entry: the length has two octets, and its flag is set, exactly if the value has more than 255
 abbrev pub canonical : ℕ × Attribute → List ℕ
 canonical e =
-    if nat_lt 255 (length e.1.value) then (e.1.flags + EXTENDED_LENGTH) ∷ e.0 ∷ two_octets (length e.1.value) ++ e.1.value
+    if nat_lt 255 (length e.1.value)
+    then (e.1.flags + EXTENDED_LENGTH) ∷ e.0 ∷ two_octets (length e.1.value) ++ e.1.value
     else e.1.flags ∷ e.0 ∷ length e.1.value ∷ e.1.value
 
 -- the canonical section of a route

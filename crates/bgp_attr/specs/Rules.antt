@@ -22,20 +22,23 @@ fault_if bad fault = if bad then Some fault else None
 
 -- the first fault by a row: of the flags, else of the length, else of the value
 abbrev pub row_fault : Bool → Bool → Option AttrFault → Option AttrFault
-row_fault flags_fit length_fits value = if not flags_fit then Some Flags else if not length_fits then Some Length else value
+row_fault flags_fit length_fits value =
+    if not flags_fit then Some Flags else if not length_fits then Some Length else value
 
 -- The first fault of one attribute, a row for each known code with its flags, its length and what its value must be.
 -- AGGREGATOR alone may be partial. An attribute of another code must be optional.
 unfoldable pub attr_fault : ℕ → ℕ → ℕ → List ℕ → Option AttrFault
 attr_fault w code flags value =
     let kept = kept_flags flags in
+    let partial = kept == PARTIAL_TRANSITIVE in
+    let well_known = kept == WELL_KNOWN in
     let len = length value in
     let first = slice_index value 0 in
-    if code == ORIGIN then row_fault (kept == WELL_KNOWN) (len == 1) (fault_if (nat_lt INCOMPLETE first) Origin)
-    else if code == AS_PATH then row_fault (kept == WELL_KNOWN) true (fault_if (not (path_ok w value)) Path)
-    else if code == NEXT_HOP then row_fault (kept == WELL_KNOWN) (len == FOUR_OCTETS) (fault_if (not (is_host first)) NextHop)
+    if code == ORIGIN then row_fault well_known (len == 1) (fault_if (nat_lt INCOMPLETE first) Origin)
+    else if code == AS_PATH then row_fault well_known true (fault_if (not (path_ok w value)) Path)
+    else if code == NEXT_HOP then row_fault well_known (len == FOUR_OCTETS) (fault_if (not (is_host first)) NextHop)
     else if code == MULTI_EXIT_DISC then row_fault (kept == OPTIONAL) (len == FOUR_OCTETS) None
-    else if code == LOCAL_PREF then row_fault (kept == WELL_KNOWN) (len == FOUR_OCTETS) None
-    else if code == ATOMIC_AGGREGATE then row_fault (kept == WELL_KNOWN) (len == 0) None
-    else if code == AGGREGATOR then row_fault (kept == OPTIONAL_TRANSITIVE || kept == PARTIAL_TRANSITIVE) (len == w + FOUR_OCTETS) None
+    else if code == LOCAL_PREF then row_fault well_known (len == FOUR_OCTETS) None
+    else if code == ATOMIC_AGGREGATE then row_fault well_known (len == 0) None
+    else if code == AGGREGATOR then row_fault (kept == OPTIONAL_TRANSITIVE || partial) (len == w + FOUR_OCTETS) None
     else fault_if (bit_and flags OPTIONAL == 0) Unrecognized

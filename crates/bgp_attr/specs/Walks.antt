@@ -39,7 +39,8 @@ walk_end len (Err o ∷ steps) = o.at
 
 -- the law: the attributes of a section, joined, are its octets up to an overrun
 abbrev pub attributes_join : Type 0
-attributes_join = (section : List ℕ) → raws (attributes_from 0 section) ≡ take (walk_end (length section) (attributes_from 0 section)) section
+attributes_join =
+    (section : List ℕ) → raws (attributes_from 0 section) ≡ take (walk_end (length section) (attributes_from 0 section)) section
 
 -- the section has the attribute's octets at its offset, and no whole attribute at the offset of an overrun
 abbrev pub MatchesSection : List ℕ → Result FoundAttr Overrun → Type 0
@@ -52,4 +53,6 @@ attributes_match = (section : List ℕ) → AllByRecursion (MatchesSection secti
 
 -- the law: the steps of a walk over a section without overrun are its attributes, each with its offset
 abbrev pub attributes_walked : Type 0
-attributes_walked = (section : List ℕ) (at : ℕ) → is_whole section ≡ true → attributes_from at section ≡ map (λ p. Ok (found_attr p.0 p.1)) (placed at (attributes section))
+attributes_walked =
+    (section : List ℕ) (at : ℕ) → is_whole section ≡ true
+    → attributes_from at section ≡ map (λ p. Ok (found_attr p.0 p.1)) (placed at (attributes section))

@@ -1,5 +1,6 @@
 //! Laws on the walk over a section, each the contract of a function without parameters.
-ghost use Rattle.bgp_attr.specs.Walks.{attributes_join as parts_join, attributes_match as parts_match, attributes_walked as parts_walked};
+ghost use Rattle.bgp_attr.specs.Walks.{attributes_join as parts_join, attributes_match as parts_match};
+ghost use Rattle.bgp_attr.specs.Walks.{attributes_walked as parts_walked};
 
 /// The octets of the attributes, joined, are the section up to an overrun.
 pub fn attributes_join()

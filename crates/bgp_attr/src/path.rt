@@ -40,8 +40,8 @@ pub(crate) fn is_path(value: &[u8], width: usize) -> bool
     rest.is_empty()
 }
 
-/// Whether segments fill the value, with AS numbers of two octets (RFC 4271, sections 4.3 and 6.3). An empty value is an
-/// empty path.
+/// Whether segments fill the value, with AS numbers of two octets (RFC 4271, sections 4.3 and 6.3). An empty value is
+/// an empty path.
 pub fn path_ok(value: &[u8]) -> bool
     ensures { result ≡ is_path_of 2 value.now }
 {
