@@ -9,7 +9,7 @@ use Rattle.xb_values.specs.Prefixes.{Prefix, prefix_of}
 -- an octet before the first of some parts (for `split_on`)
 abbrev pub with_first_octet : ℕ → List (List ℕ) → List (List ℕ)
 with_first_octet c [] = (c ∷ []) ∷ []
-with_first_octet c (part ∷ parts) = (c ∷ part) ∷ parts
+with_first_octet c (part ∷ others) = (c ∷ part) ∷ others
 
 -- the parts of a text between the octets that are the separator
 abbrev pub split_on : ℕ → List ℕ → List (List ℕ)
