@@ -27,14 +27,12 @@ impl Model for MemShelf {
 
     ghost Value = { Held };
 
-    ghost view = {
-        λ s. record {
-            files = files_of s.entries.entries;
-            calls = s.calls;
-            failing = s.failing.items;
-            faults = s.faults
-        }
-    };
+    ghost view = { λ s. record {
+      files = files_of s.entries.entries;
+      calls = s.calls;
+      failing = s.failing.items;
+      faults = s.faults;
+    } };
 }
 
 // Copies the octets from offset `at`, as far as they fit, and returns how many.
@@ -64,10 +62,8 @@ fn octets_named<'a>(entries: &'a BTreeMap<String, Vec<u8>>, name: &str) -> Optio
 // Appends what fits of the bytes, and returns whether all do.
 fn push_front(out: &mut Buf, bytes: &[u8]) -> bool
     ensures fits { IsTrue result ↔ (length out.old.octets + length bytes.now ≤ out.old.capacity) }
-    ensures front {
-        let space = out.old.capacity - length out.old.octets
-        in out.new ≡ record out.old { octets = out.old.octets ++ take space bytes.now }
-    }
+    ensures front { let space = out.old.capacity - length out.old.octets
+        in out.new ≡ record out.old { octets = out.old.octets ++ take space bytes.now } }
 {
     let space = out.room();
     if bytes.len() > space {
@@ -128,9 +124,7 @@ impl Shelf for MemShelf {
 
         // It fails exactly by the number of the call and at an absent name; the number alone counts as a fault.
         ensures counted { self.new ≡ record self.old { calls = one_more self.old.calls; faults = self.new.faults } }
-        ensures fails {
-            IsErr result ↔ (Contains self.old.failing self.new.calls ⊎ IsNone (file_named self.old.files name.now))
-        }
+        ensures fails { IsErr result ↔ (Contains self.old.failing self.new.calls ⊎ IsNone (file_named self.old.files name.now)) }
         ensures listed { Contains self.old.failing self.new.calls → self.new.faults ≡ one_more self.old.faults }
         ensures absent { ¬ Contains self.old.failing self.new.calls → self.new.faults ≡ self.old.faults }
     {
@@ -160,15 +154,13 @@ impl Model for MemSink {
 
     ghost Value = { Taken };
 
-    ghost view = {
-        λ s. record {
-            taken = s.taken.octets;
-            room = s.taken.capacity;
-            calls = s.calls;
-            failing = s.failing.items;
-            faults = s.faults
-        }
-    };
+    ghost view = { λ s. record {
+      taken = s.taken.octets;
+      room = s.taken.capacity;
+      calls = s.calls;
+      failing = s.failing.items;
+      faults = s.faults;
+    } };
 }
 
 impl MemSink {
@@ -214,19 +206,13 @@ impl Sink for MemSink {
         ensures cause { OnErr result (FaultsRose self.old.faults self.new.faults) }
 
         // It fails exactly by the number of the call and past the room; past the room it takes what fits.
-        ensures counted {
-            self.new
-            ≡ record self.old { calls = one_more self.old.calls; taken = self.new.taken; faults = self.new.faults }
-        }
-        ensures fails {
-            IsErr result
-            ↔ (Contains self.old.failing self.new.calls ⊎ (self.old.room < length self.old.taken + length bytes.now))
-        }
+        ensures counted { self.new
+            ≡ record self.old { calls = one_more self.old.calls; taken = self.new.taken; faults = self.new.faults } }
+        ensures fails { IsErr result
+            ↔ (Contains self.old.failing self.new.calls ⊎ (self.old.room < length self.old.taken + length bytes.now)) }
         ensures listed { Contains self.old.failing self.new.calls → self.new.taken ≡ self.old.taken }
-        ensures fitting {
-            ¬ Contains self.old.failing self.new.calls
-            → self.new.taken ≡ self.old.taken ++ take (self.old.room - length self.old.taken) bytes.now
-        }
+        ensures fitting { ¬ Contains self.old.failing self.new.calls
+            → self.new.taken ≡ self.old.taken ++ take (self.old.room - length self.old.taken) bytes.now }
         ensures one_fault { OnErr result (self.new.faults ≡ one_more self.old.faults) }
     {
         self.calls = self.calls.saturating_add(1);

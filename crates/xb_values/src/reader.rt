@@ -24,10 +24,8 @@ pub fn split_once(text: &[u8], separator: u8) -> Option<(&[u8], &[u8])>
 
 // A number with one more digit at its end.
 fn with_digit(value: u64, c: u8) -> Option<u64>
-    ensures {
-        let more = value * 10 + (c - 48)
-        in result ≡ (if is_digit c && nat_le more (2 ^ 64 - 1) then Some more else None)
-    }
+    ensures { let more = value * 10 + (c - 48)
+        in result ≡ (if is_digit c && nat_le more (2 ^ 64 - 1) then Some more else None) }
 {
     match c {
         b'0'..=b'9' => value.checked_mul(10)?.checked_add(u64::from(c - b'0')),
@@ -37,10 +35,8 @@ fn with_digit(value: u64, c: u8) -> Option<u64>
 
 // The number of digits, each of which is one, if it has at most 64 bits.
 fn value_of(text: &[u8]) -> Option<u64>
-    ensures {
-        let number = digits_value text.now
-        in result ≡ (if list_all is_digit text.now && nat_le number (2 ^ 64 - 1) then Some number else None)
-    }
+    ensures { let number = digits_value text.now
+        in result ≡ (if list_all is_digit text.now && nat_le number (2 ^ 64 - 1) then Some number else None) }
 {
     let mut value = 0u64;
     for c in text {

@@ -5,7 +5,8 @@ ghost use Rattle.xb_wire.specs.Headers.{notification_of};
 ghost use Rattle.xb_wire.specs.Messages.{header_fault, is_bad_length};
 
 use crate::numbers::{
-    EMPTY_UPDATE, HEADER, KEEPALIVE, LEAST_NOTIFICATION, LEAST_OPEN, MARKER, MAX_MESSAGE, NOTIFICATION, OPEN, UPDATE,
+    EMPTY_UPDATE, HEADER, KEEPALIVE, LEAST_NOTIFICATION, LEAST_OPEN, MARKER, MAX_MESSAGE,
+    NOTIFICATION, OPEN, UPDATE,
 };
 use xb_words::u16_at;
 

@@ -20,28 +20,28 @@ pub smaller_right : (n : Node) → length (entries_of n.right) < length (entries
 smaller_right n = omega (arith, length-append (entries_of n.left) (entry_of n ∷ entries_of n.right))
 
 pub left_rises : (n : Node) → IsRising key_cmp (entries_below n) → IsRising key_cmp (entries_of n.left)
-left_rises n rising = middle.rising_left key_cmp nat_list_cmp_total (entries_of n.left) (entry_of n ∷ entries_of n.right) rising
+left_rises n rising = middle.IsRising-left key_cmp nat_list_cmp_total (entries_of n.left) (entry_of n ∷ entries_of n.right) rising
 
 pub right_rises : (n : Node) → IsRising key_cmp (entries_below n) → IsRising key_cmp (entries_of n.right)
-right_rises n rising = middle.rising_right key_cmp nat_list_cmp_total (entries_of n.left) (entry_of n) (entries_of n.right) rising
+right_rises n rising = middle.IsRising-right key_cmp nat_list_cmp_total (entries_of n.left) (entry_of n) (entries_of n.right) rising
 
 pub value_left : (n : Node) (q : List ℕ) → key_cmp q n.key.items ≡ Less → IsRising key_cmp (entries_below n) → value_at key_cmp (entries_below n) q ≡ value_at key_cmp (entries_of n.left) q
-value_left n q less rising = middle.value_less key_cmp nat_list_cmp_total q (entries_of n.left) (entry_of n) (entries_of n.right) less rising
+value_left n q less rising = middle.value_at-less key_cmp nat_list_cmp_total q (entries_of n.left) (entry_of n) (entries_of n.right) less rising
 
 pub value_here : (n : Node) (q : List ℕ) → key_cmp q n.key.items ≡ Equal → IsRising key_cmp (entries_below n) → value_at key_cmp (entries_below n) q ≡ Some n.value.items
-value_here n q same rising = middle.value_equal key_cmp nat_list_cmp_total q (entries_of n.left) (entry_of n) (entries_of n.right) same rising
+value_here n q same rising = middle.value_at-equal key_cmp nat_list_cmp_total q (entries_of n.left) (entry_of n) (entries_of n.right) same rising
 
 pub value_right : (n : Node) (q : List ℕ) → key_cmp q n.key.items ≡ Greater → IsRising key_cmp (entries_below n) → value_at key_cmp (entries_below n) q ≡ value_at key_cmp (entries_of n.right) q
-value_right n q more rising = middle.value_greater key_cmp nat_list_cmp_total q (entries_of n.left) (entry_of n) (entries_of n.right) more rising
+value_right n q more rising = middle.value_at-greater key_cmp nat_list_cmp_total q (entries_of n.left) (entry_of n) (entries_of n.right) more rising
 
 pub after_left : (n : Node) (q : List ℕ) → key_cmp q n.key.items ≡ Less → entry_after key_cmp (entries_below n) (Some q) ≡ middle.or_entry (entry_after key_cmp (entries_of n.left) (Some q)) (entry_of n)
-after_left n q less = middle.after_less key_cmp nat_list_cmp_total q (entries_of n.left) (entry_of n) (entries_of n.right) less
+after_left n q less = middle.entry_after-less key_cmp nat_list_cmp_total q (entries_of n.left) (entry_of n) (entries_of n.right) less
 
 pub after_here : (n : Node) (q : List ℕ) → key_cmp q n.key.items ≡ Equal → IsRising key_cmp (entries_below n) → entry_after key_cmp (entries_below n) (Some q) ≡ entry_after key_cmp (entries_of n.right) (Some q)
-after_here n q same rising = middle.after_equal key_cmp nat_list_cmp_total q (entries_of n.left) (entry_of n) (entries_of n.right) same rising
+after_here n q same rising = middle.entry_after-equal key_cmp nat_list_cmp_total q (entries_of n.left) (entry_of n) (entries_of n.right) same rising
 
 pub after_right : (n : Node) (q : List ℕ) → key_cmp q n.key.items ≡ Greater → IsRising key_cmp (entries_below n) → entry_after key_cmp (entries_below n) (Some q) ≡ entry_after key_cmp (entries_of n.right) (Some q)
-after_right n q more rising = middle.after_greater key_cmp nat_list_cmp_total q (entries_of n.left) (entry_of n) (entries_of n.right) more rising
+after_right n q more rising = middle.entry_after-greater key_cmp nat_list_cmp_total q (entries_of n.left) (entry_of n) (entries_of n.right) more rising
 
 first_cut : (ls : Entries) (e : List ℕ × List ℕ) (rs : Entries) → first_of (ls ++ e ∷ rs) ≡ middle.or_entry (first_of ls) e
 first_cut [] e rs = refl
@@ -60,22 +60,22 @@ pub values_here : (n : Node) (w : ℕ) → HaveWidth w (entries_below n) → len
 values_here n w a = (AllByRecursion-right (λ e. length e.1 ≡ w) (entries_of n.left) (entry_of n ∷ entries_of n.right) a.all).0
 
 pub with_left : (n : Node) (q v : List ℕ) → key_cmp q n.key.items ≡ Less → with_value key_cmp (entries_below n) q v ≡ with_value key_cmp (entries_of n.left) q v ++ entry_of n ∷ entries_of n.right
-with_left n q v less = middle.with_less key_cmp nat_list_cmp_total q v (entries_of n.left) (entry_of n) (entries_of n.right) less
+with_left n q v less = middle.with_value-less key_cmp nat_list_cmp_total q v (entries_of n.left) (entry_of n) (entries_of n.right) less
 
 pub with_here : (n : Node) (q v : List ℕ) → key_cmp q n.key.items ≡ Equal → IsRising key_cmp (entries_below n) → with_value key_cmp (entries_below n) q v ≡ entries_of n.left ++ (n.key.items, v) ∷ entries_of n.right
-with_here n q v same rising = middle.with_equal key_cmp nat_list_cmp_total q v (entries_of n.left) (entry_of n) (entries_of n.right) same rising
+with_here n q v same rising = middle.with_value-equal key_cmp nat_list_cmp_total q v (entries_of n.left) (entry_of n) (entries_of n.right) same rising
 
 pub with_right : (n : Node) (q v : List ℕ) → key_cmp q n.key.items ≡ Greater → IsRising key_cmp (entries_below n) → with_value key_cmp (entries_below n) q v ≡ entries_of n.left ++ entry_of n ∷ with_value key_cmp (entries_of n.right) q v
-with_right n q v more rising = middle.with_greater key_cmp nat_list_cmp_total q v (entries_of n.left) (entry_of n) (entries_of n.right) more rising
+with_right n q v more rising = middle.with_value-greater key_cmp nat_list_cmp_total q v (entries_of n.left) (entry_of n) (entries_of n.right) more rising
 
 pub without_left : (n : Node) (q : List ℕ) → key_cmp q n.key.items ≡ Less → IsRising key_cmp (entries_below n) → without key_cmp (entries_below n) q ≡ without key_cmp (entries_of n.left) q ++ entry_of n ∷ entries_of n.right
-without_left n q less rising = middle.without_less key_cmp nat_list_cmp_total q (entries_of n.left) (entry_of n) (entries_of n.right) less rising
+without_left n q less rising = middle.without-less key_cmp nat_list_cmp_total q (entries_of n.left) (entry_of n) (entries_of n.right) less rising
 
 pub without_here : (n : Node) (q : List ℕ) → key_cmp q n.key.items ≡ Equal → IsRising key_cmp (entries_below n) → without key_cmp (entries_below n) q ≡ entries_of n.left ++ entries_of n.right
-without_here n q same rising = middle.without_equal key_cmp nat_list_cmp_total q (entries_of n.left) (entry_of n) (entries_of n.right) same rising
+without_here n q same rising = middle.without-equal key_cmp nat_list_cmp_total q (entries_of n.left) (entry_of n) (entries_of n.right) same rising
 
 pub without_right : (n : Node) (q : List ℕ) → key_cmp q n.key.items ≡ Greater → IsRising key_cmp (entries_below n) → without key_cmp (entries_below n) q ≡ entries_of n.left ++ entry_of n ∷ without key_cmp (entries_of n.right) q
-without_right n q more rising = middle.without_greater key_cmp nat_list_cmp_total q (entries_of n.left) (entry_of n) (entries_of n.right) more rising
+without_right n q more rising = middle.without-greater key_cmp nat_list_cmp_total q (entries_of n.left) (entry_of n) (entries_of n.right) more rising
 
 -- two keys of one order are the same octets
 pub same_key : (n : Node) (q : List ℕ) → key_cmp q n.key.items ≡ Equal → n.key.items ≡ q
