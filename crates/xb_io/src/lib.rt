@@ -13,6 +13,6 @@ mod real;
 mod shelf;
 
 pub use memory::{MemShelf, MemSink};
-pub use page::gather;
+pub use page::{Halt, begin_line, gather, put_text};
 pub use real::{FileShelf, StdSink};
 pub use shelf::{Failed, Shelf, Sink};

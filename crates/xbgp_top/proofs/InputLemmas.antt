@@ -4,7 +4,7 @@ use Rattle.std.specs.Result.{IfErr}
 use Rattle.std.proofs.lemmas.Bool.{lt-ltb, le-ltb}
 use Rattle.std.proofs.lemmas.List.{length-take-le}
 use Rattle.std.proofs.Math.Seq.{take-add}
-use Rattle.xb_io.specs.Causes.{Files, file_named, Reads, ReadsPart, Rose, IsMissing}
+use Rattle.xb_io.specs.Causes.{Files, file_named, Reads, ReadsPart, FaultsRose, IsMissing}
 use Rattle.xbgp_top.specs.declared.input.TheConstants.{INPUT_LIMIT}
 use Rattle.xbgp_top.specs.declared.input.Unread.{Unread}
 use Rattle.xbgp_top.specs.declared.input.Unread.TheVariants.{Long, Fault}

@@ -3,7 +3,7 @@ use Rattle.std.proofs.Common.{◌≡◌, ℕ, ◌+◌, List, [], ◌∷◌, ◌+
 use Rattle.std.specs.Prelude.{◌==◌}
 use Rattle.std.specs.List.{concat}
 use Rattle.std.proofs.Math.Dec.{eqb-suc-zero}
-use Rattle.xb_words.specs.Cut.{walk, walk_from, placed}
+use Rattle.xb_words.specs.Cut.{walk, walk_from, with_offsets}
 use Rattle.xb_wire.specs.Messages.{split}
 use Rattle.bgp_update.specs.Walks.{Found, found, messages_from}
 use Rattle.xbgp_top.specs.Answers.{judge_line, judge_lines, messages_of, rest_offset}
@@ -38,7 +38,7 @@ lines_of [] = []
 lines_of (Err at ∷ ms) = []
 lines_of (Ok m ∷ ms) = judge_line m ++ lines_of ms
 
-lines_of_walk : (at : ℕ) (items : List (List ℕ)) (rest : List ℕ) → lines_of (walk found (λ i. i) at items rest) ≡ flat_map judge_line (map (λ m. found m.0 m.1) (placed at items))
+lines_of_walk : (at : ℕ) (items : List (List ℕ)) (rest : List ℕ) → lines_of (walk found (λ i. i) at items rest) ≡ flat_map judge_line (map (λ m. found m.0 m.1) (with_offsets at items))
 lines_of_walk at [] [] = refl
 lines_of_walk at [] (b ∷ rest) = refl
 lines_of_walk at (m ∷ items) rest = ap (λ l. judge_line (found at m) ++ l) (lines_of_walk (at + length m) items rest)

@@ -2,9 +2,9 @@
 use Rattle.std.proofs.Common.{◌≡◌, ◌≢◌, ℕ, ◌<◌, length, List, [], ◌++◌, Option, Some, None, Result, Ok, Err, refl, sym, ◌∙◌, ap, subst, inl, inr, arith, append_assoc}
 use Rattle.std.specs.Result.{IsErrAnd}
 use Rattle.std.proofs.lemmas.List.{append-nil}
-use Rattle.xb_io.specs.Causes.{Rose, TookFront}
+use Rattle.xb_io.specs.Causes.{FaultsRose, TookFront}
 use Rattle.xb_io.specs.Pages.{Gathered}
-use Rattle.xb_io.proofs.PageLemmas.{joined_on, front_on, front_put, front_taken, all_taken, begun}
+use Rattle.xb_io.proofs.PageLemmas.{gathered_then, front_then, front_put, front_gathered, gathered_end, gathered_begin}
 use Rattle.xbgp_top.specs.declared.status.Status.{Status}
 use Rattle.xbgp_top.specs.declared.status.Status.TheVariants.{Done, WriteFault, OutOfMemory}
 use Rattle.xbgp_top.specs.Answers.{answered, end_line}
@@ -24,7 +24,7 @@ module _ {K : Type 0} (took : K → Option (List ℕ)) (faults : K → ℕ) wher
   -- want of memory, before the next text
   pub stops-memory : (old new : K) (whole page rest : List ℕ) → Gathered (took old) (took new) whole page rest → faults new ≡ faults old → Stops took faults old new whole OutOfMemory
   stops-memory old new whole page rest g quiet =
-      record { only = inr refl; front = front_taken (took old) (took new) whole page rest g; fault = λ e. absurd (cc e); later = omega (arith, quiet) }
+      record { only = inr refl; front = front_gathered (took old) (took new) whole page rest g; fault = λ e. absurd (cc e); later = omega (arith, quiet) }
 
   -- a part of what was to come stopped
   pub stops-then : (old mid new : K) (whole page part rest : List ℕ) (status : Status)
@@ -32,8 +32,8 @@ module _ {K : Type 0} (took : K → Option (List ℕ)) (faults : K → ℕ) wher
   stops-then old mid new whole page part rest status so_far quiet s =
       record {
         only = s.only;
-        front = front_on (took old) (took mid) (took new) whole page part rest so_far s.front;
-        fault = λ e. subst (λ (n : ℕ). Rose n (faults new)) quiet (s.fault e);
+        front = front_then (took old) (took mid) (took new) whole page part rest so_far s.front;
+        fault = λ e. subst (λ (n : ℕ). FaultsRose n (faults new)) quiet (s.fault e);
         later = omega (arith, quiet, s.later);
       }
 
@@ -51,7 +51,7 @@ module _ {K : Type 0} (took : K → Option (List ℕ)) (faults : K → ℕ) wher
       record {
         only = inr s.only;
         whole = λ a b. absurd (elim (s.only) as (λ _. ⊥) [ inl w ↦ a w | inr m ↦ b m ]);
-        front = front_put (took old) (took old) (took new) (text ++ end_line) text end_line (begun (took old) text end_line) front;
+        front = front_put (took old) (took old) (took new) (text ++ end_line) text end_line (gathered_begin (took old) text end_line) front;
         fault = λ e. inr (s.fault e);
         quiet = λ a b. absurd (elim (s.only) as (λ _. ⊥) [ inl w ↦ a w | inr m ↦ b m ]);
         later = s.later;
@@ -66,9 +66,9 @@ module _ {K : Type 0} (took : K → Option (List ℕ)) (faults : K → ℕ) wher
       let more : Gathered (took old) (took mid) (text ++ end_line) page (end_line ++ []) = more_to_come (took old) (took mid) text page end_line gathered in
       record {
         only = w.only;
-        whole = λ a b. all_taken (took old) (took mid) (took new) (text ++ end_line) (page ++ end_line) (written_line more) (w.whole a b);
-        front = front_on (took old) (took mid) (took new) (text ++ end_line) page end_line [] more w.front;
-        fault = λ e. elim (w.fault e) as (λ _. (Done ≡ WriteFault) ⊎ Rose (faults old) (faults new)) [ inl other ↦ inl other | inr rose ↦ inr (subst (λ (n : ℕ). Rose n (faults new)) so_far.1 rose) ];
+        whole = λ a b. gathered_end (took old) (took mid) (took new) (text ++ end_line) (page ++ end_line) (written_line more) (w.whole a b);
+        front = front_then (took old) (took mid) (took new) (text ++ end_line) page end_line [] more w.front;
+        fault = λ e. elim (w.fault e) as (λ _. (Done ≡ WriteFault) ⊎ FaultsRose (faults old) (faults new)) [ inl other ↦ inl other | inr rose ↦ inr (subst (λ (n : ℕ). FaultsRose n (faults new)) so_far.1 rose) ];
         quiet = λ a b. w.quiet a b ∙ so_far.1;
         later = omega (arith, so_far.1, w.later);
       }
@@ -84,9 +84,9 @@ module _ {K : Type 0} (took : K → Option (List ℕ)) (faults : K → ℕ) wher
       let gathered : Gathered (took old) (took mid) text shown [] = subst (λ p. Gathered (took old) (took mid) text p []) (sym same) so_far.0 in
       record {
         only = w.only;
-        whole = λ a b. all_taken (took old) (took mid) (took new) text shown gathered (w.whole a b);
+        whole = λ a b. gathered_end (took old) (took mid) (took new) text shown gathered (w.whole a b);
         front = front_put (took old) (took mid) (took new) text shown [] gathered w.front;
-        fault = λ e. elim (w.fault e) as (λ _. (Done ≡ WriteFault) ⊎ Rose (faults old) (faults new)) [ inl other ↦ inl other | inr rose ↦ inr (subst (λ (n : ℕ). Rose n (faults new)) so_far.1 rose) ];
+        fault = λ e. elim (w.fault e) as (λ _. (Done ≡ WriteFault) ⊎ FaultsRose (faults old) (faults new)) [ inl other ↦ inl other | inr rose ↦ inr (subst (λ (n : ℕ). FaultsRose n (faults new)) so_far.1 rose) ];
         quiet = λ a b. w.quiet a b ∙ so_far.1;
         later = omega (arith, so_far.1, w.later);
       }

@@ -1,7 +1,7 @@
 -- How a step over a shelf and one over a sink make a run.
 use Rattle.std.proofs.Common.{◌≡◌, ◌≢◌, ◌⊎◌, ℕ, List, Option, Some, None, Ok, Err, refl, sym, ◌∙◌, ap, subst, inl, inr}
-use Rattle.xb_io.specs.Causes.{Files, Rose, TookFront, and_then}
-use Rattle.xb_io.proofs.PageLemmas.{and_then-nil}
+use Rattle.xb_io.specs.Causes.{Files, FaultsRose, TookFront, with_text}
+use Rattle.xb_io.proofs.PageLemmas.{with_text-nil}
 use Rattle.xbgp_top.specs.declared.status.Status.{Status}
 use Rattle.xbgp_top.specs.declared.status.Status.TheVariants.{Done, Usage, ReadFault, WriteFault, OutOfMemory}
 use Rattle.xbgp_top.specs.Answers.{Answer, Outcome, answer, command_answer, ended}
@@ -43,7 +43,7 @@ module _ {S K : Type 0} (held : S → Option Files) (reads : S → ℕ) (took : 
               | inr read ↦ nothing (want files) (subst (λ (x : Outcome (List ℕ)). TookFront (took sink_old) (took sink_new) (ended x).text) read.0 w.front)
             ];
         read_cause = λ fault. ?;
-        write_cause = λ fault. elim (w.fault fault) as (λ _. Rose (writes sink_old) (writes sink_new)) [ inl other ↦ absurd (o.write (write_fault got other)) | inr rose ↦ rose ];
+        write_cause = λ fault. elim (w.fault fault) as (λ _. FaultsRose (writes sink_old) (writes sink_new)) [ inl other ↦ absurd (o.write (write_fault got other)) | inr rose ↦ rose ];
         quiet_shelf = λ read memory. o.quiet (λ e. read (unread e));
         quiet_sink = w.quiet;
         later_shelf = o.later;

@@ -4,7 +4,7 @@ use Rattle.std.specs.Prelude.{ℕ, Bool, false, List, [], ◌∷◌, ◌++◌, l
 use Rattle.std.specs.List.{concat}
 use Rattle.std.specs.Result.{result_map_both}
 use Rattle.std.specs.Str.{bytes_eq}
-use Rattle.xb_words.specs.Cut.{placed}
+use Rattle.xb_words.specs.Cut.{with_offsets}
 use Rattle.xb_values.specs.Prefixes.{Prefix, Sections}
 use Rattle.xb_values.specs.Texts.{line, prefix_text, hex_text}
 use Rattle.xb_wire.specs.declared.numbers.TheConstants.{UPDATE}
@@ -103,7 +103,7 @@ heard_outcome octets = result_map_both (λ table. table_lines table ++ end_line)
 
 -- the messages of a stream, each with its offset
 abbrev pub messages_of : List ℕ → List Found
-messages_of s = map (λ m. found m.0 m.1) (placed 0 (split s).items)
+messages_of s = map (λ m. found m.0 m.1) (with_offsets 0 (split s).items)
 
 -- the offset of what is left of a stream after its messages, if anything is
 abbrev pub rest_offset : List ℕ → Option ℕ

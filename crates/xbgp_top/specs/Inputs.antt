@@ -1,6 +1,6 @@
 -- What a shelf's files say of a step that reads inputs.
 use Rattle.std.specs.Prelude.{◌≡◌, ◌≢◌, ◌⊎◌, ℕ, ◌<◌, ◌≤◌, List, [], length, take, Option, Some, None, Result, Ok, Err, MatchOption}
-use Rattle.xb_io.specs.Causes.{Files, file_named, Rose, IsMissing}
+use Rattle.xb_io.specs.Causes.{Files, file_named, FaultsRose, IsMissing}
 use Rattle.xbgp_top.specs.declared.input.TheConstants.{INPUT_LIMIT}
 use Rattle.xbgp_top.specs.declared.input.Unread.{Unread}
 use Rattle.xbgp_top.specs.declared.input.Unread.TheVariants.{Long, Fault}
@@ -17,9 +17,9 @@ Gives want (Err status) = (status ≡ OutOfMemory) ⊎ (want ≡ Err status)
 
 -- a step over a shelf gave what its files say, or had no memory, or a read failed; it left the files as they were
 pub record Obtains {S A : Type 0} (held : S → Option Files) (faults : S → ℕ) (old new : S) (want : Files → Outcome A) (got : Outcome A) : Type 0 where
-  pub told : (files : Files) → held old ≡ Some files → Gives (want files) got ⊎ ((got ≡ Err ReadFault) × Rose (faults old) (faults new))
+  pub told : (files : Files) → held old ≡ Some files → Gives (want files) got ⊎ ((got ≡ Err ReadFault) × FaultsRose (faults old) (faults new))
   -- a shelf that doesn't tell has no name that is missing
-  pub cause : held old ≡ None → got ≡ Err ReadFault → Rose (faults old) (faults new)
+  pub cause : held old ≡ None → got ≡ Err ReadFault → FaultsRose (faults old) (faults new)
   pub quiet : got ≢ Err ReadFault → faults new ≡ faults old
   pub later : faults old ≤ faults new
   pub same : held new ≡ held old
@@ -43,7 +43,7 @@ IsLong held name = MatchOption held (Unit {0}) (λ files. MatchOption (file_name
 -- an input that was not read has its cause; without a fault the count of faults stays
 abbrev pub IsUnread : Option Files → List ℕ → ℕ → ℕ → Unread → Type 0
 IsUnread held name before now Long = IsLong held name × (now ≡ before)
-IsUnread held name before now Fault = (before ≤ now) × (Rose before now ⊎ IsMissing held name)
+IsUnread held name before now Fault = (before ≤ now) × (FaultsRose before now ⊎ IsMissing held name)
 IsUnread held name before now reasons.OutOfMemory = now ≡ before
 
 -- the status of an input that was not read

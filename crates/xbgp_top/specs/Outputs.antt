@@ -1,6 +1,6 @@
 -- How an answer goes to a sink, and what the status says of it.
 use Rattle.std.specs.Prelude.{◌≡◌, ◌≢◌, ◌⊎◌, ℕ, ◌≤◌, List, [], ◌++◌, Option, Result, Ok, Err}
-use Rattle.xb_io.specs.Causes.{Rose, TookFront, and_then}
+use Rattle.xb_io.specs.Causes.{FaultsRose, TookFront, with_text}
 use Rattle.xb_io.specs.Pages.{Gathered}
 use Rattle.xbgp_top.specs.Answers.{Answer}
 use Rattle.xbgp_top.specs.declared.status.Status.{Status}

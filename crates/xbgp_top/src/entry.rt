@@ -1,6 +1,6 @@
 //! The top call: the words' command is found, its inputs are read, and its answer is written.
 ghost use Rattle.std.specs.Prelude.{◌≡◌, ◌≢◌, ◌≤◌, ◌⊎◌, Some, map, string_bytes};
-ghost use Rattle.xb_io.specs.Causes.{Files, Rose, TookFront};
+ghost use Rattle.xb_io.specs.Causes.{Files, FaultsRose, TookFront};
 ghost use Rattle.xbgp_top.specs.Answers.{answer, command_answer, ended, job_outcome};
 ghost use Rattle.xbgp_top.specs.Commands.{check, command_of, on_file};
 ghost use Rattle.xbgp_top.specs.Outputs.{Writes};
@@ -78,7 +78,7 @@ pub fn run<S: Shelf, K: Sink>(
     ensures exact {
         let told = answer (map string_bytes words.now) in
         (files : Files) → S.held shelf.old ≡ Some files
-        → ¬ Rose (S.faults shelf.old) (S.faults shelf.new) → ¬ Rose (K.faults sink.old) (K.faults sink.new)
+        → ¬ FaultsRose (S.faults shelf.old) (S.faults shelf.new) → ¬ FaultsRose (K.faults sink.old) (K.faults sink.new)
         → result ≢ Status.OutOfMemory → IsAnswered (told files) (K.took sink.old) (K.took sink.new) result
     }
 
@@ -95,9 +95,9 @@ pub fn run<S: Shelf, K: Sink>(
     // No fault is returned without its cause, and no other answer if a count rose.
     ensures read_cause {
         let told = answer (map string_bytes words.now) in
-        result ≡ Status.ReadFault → Rose (S.faults shelf.old) (S.faults shelf.new) ⊎ SaysMissing (S.held shelf.old) told
+        result ≡ Status.ReadFault → FaultsRose (S.faults shelf.old) (S.faults shelf.new) ⊎ SaysMissing (S.held shelf.old) told
     }
-    ensures write_cause { result ≡ Status.WriteFault → Rose (K.faults sink.old) (K.faults sink.new) }
+    ensures write_cause { result ≡ Status.WriteFault → FaultsRose (K.faults sink.old) (K.faults sink.new) }
     ensures quiet_shelf {
         result ≢ Status.ReadFault → result ≢ Status.OutOfMemory → S.faults shelf.new ≡ S.faults shelf.old
     }
