@@ -1,92 +1,59 @@
--- Texts that are gathered one after another, and then written.
-use Rattle.std.proofs.Common.{◌≡◌, ◌≢◌, ℕ, ◌<◌, length, List, [], ◌++◌, Option, Some, None, Result, Ok, Err, refl, sym, ◌∙◌, ap, subst, inl, inr, arith, append_assoc}
+-- Lines that are gathered one after another, and then written.
+use Rattle.std.proofs.Common.{◌≡◌, ℕ, List, [], ◌++◌, length, take, Option, Result, Ok, Err, refl, sym, ◌∙◌, ap, subst, arith}
 use Rattle.std.specs.Result.{IsErrAnd}
-use Rattle.std.proofs.lemmas.List.{append-nil}
-use Rattle.xb_io.specs.Causes.{FaultsRose, TookFront}
-use Rattle.xb_io.specs.Pages.{Gathered}
-use Rattle.xb_io.proofs.PageLemmas.{gathered_then, front_then, front_put, front_gathered, gathered_end, gathered_begin}
-use Rattle.xbgp_top.specs.declared.status.Status.{Status}
-use Rattle.xbgp_top.specs.declared.status.Status.TheVariants.{Done, WriteFault, OutOfMemory}
-use Rattle.xbgp_top.specs.Answers.{answered, end_line}
-use Rattle.xbgp_top.specs.Outputs.{Gathers, Stops, Writes}
-
--- a text that comes after the whole is still to come
-more_to_come : (before now : Option (List ℕ)) (whole page text : List ℕ) → Gathered before now whole page [] → Gathered before now (whole ++ text) page (text ++ [])
-more_to_come before now whole page text g =
-    record {
-      taken = g.taken;
-      took = g.took;
-      joins = ap (λ l. g.taken ++ (page ++ l)) (append-nil text)
-          ∙ sym (append_assoc g.taken page text) ∙ ap (λ l. l ++ text) (ap (λ l. g.taken ++ l) (sym (append-nil page)) ∙ g.joins);
-    }
+use Rattle.std.proofs.lemmas.List.{take_at}
+use Rattle.xb_io.specs.Causes.{with_text}
+use Rattle.xb_io.specs.Pages.{Gathered, Gathers, Puts, Stops}
+use Rattle.xb_io.specs.declared.page.Halt.{Halt}
+use Rattle.xb_io.specs.declared.page.Halt.TheVariants.{OutOfMemory}
+use Rattle.xb_io.proofs.PageLemmas.{gathered_then, gathers_then, puts_gathered, stops_page, stops_then}
 
 module _ {K : Type 0} (took : K → Option (List ℕ)) (faults : K → ℕ) where
-  -- want of memory, before the next text
-  pub stops-memory : (old new : K) (whole page rest : List ℕ) → Gathered (took old) (took new) whole page rest → faults new ≡ faults old → Stops took faults old new whole OutOfMemory
-  stops-memory old new whole page rest g quiet =
-      record { only = inr refl; front = front_gathered (took old) (took new) whole page rest g; fault = λ e. absurd (cc e); later = omega (arith, quiet) }
-
-  -- a part of what was to come stopped
-  pub stops-then : (old mid new : K) (whole page part rest : List ℕ) (status : Status)
-      → Gathered (took old) (took mid) whole page (part ++ rest) → faults mid ≡ faults old → Stops took faults mid new (page ++ part) status → Stops took faults old new whole status
-  stops-then old mid new whole page part rest status so_far quiet s =
+  -- there was no memory for the next line
+  pub stops_memory : (old new : K) (whole page rest : List ℕ) → Gathered took faults old new whole page rest → Stops took faults old new whole OutOfMemory
+  stops_memory old new whole page rest g =
+      let front : g.taken ≡ take (length g.taken) whole = sym (ap (λ l. take (length g.taken) l) (sym g.joins) ∙ take_at g.taken (page ++ rest) (length g.taken) refl) in
       record {
-        only = s.only;
-        front = front_then (took old) (took mid) (took new) whole page part rest so_far s.front;
-        fault = λ e. subst (λ (n : ℕ). FaultsRose n (faults new)) quiet (s.fault e);
-        later = omega (arith, quiet, s.later);
+        front = (length g.taken, g.took_taken ∙ ap (with_text (took old)) front);
+        fault = λ e. absurd (cc e);
+        later = omega (arith, g.quiet);
       }
+
+  -- the next line was gathered
+  pub gathered_line : (old mid new : K) (whole page next shown line lines rest : List ℕ) → shown ≡ line → lines ≡ line ++ rest
+      → Gathered took faults old mid whole page lines → Gathered took faults mid new (page ++ shown) next [] → Gathered took faults old new whole next rest
+  gathered_line old mid new whole page next shown line lines rest same is g h =
+      gathered_then took faults old mid new whole page next line rest
+      (subst (λ l. Gathered took faults old mid whole page l) is g) (subst (λ l. Gathered took faults mid new (page ++ l) next []) same h)
+
+  -- the gathering of the next line ended early
+  pub stops_line : (old mid new : K) (whole page shown line lines rest : List ℕ) (halt : Halt) → shown ≡ line → lines ≡ line ++ rest
+      → Gathered took faults old mid whole page lines → Stops took faults mid new (page ++ shown) halt → Stops took faults old new whole halt
+  stops_line old mid new whole page shown line lines rest halt same is g s =
+      stops_then took faults old mid new whole page line rest halt
+      (subst (λ l. Gathered took faults old mid whole page l) is g) (subst (λ l. Stops took faults mid new (page ++ l) halt) same s)
 
   -- a call that hands an error on by `?` ends as that error says
-  pub gathers-stops : (old new : K) (page next text : List ℕ) (status : Status) (result : Result (Unit {0}) Status)
-      → IsErrAnd result (λ s. s ≡ status) → Stops took faults old new (page ++ text) status → Gathers took faults old new page next text result
-  gathers-stops old new page next text status (Ok done) wrong stops = absurd wrong
-  gathers-stops old new page next text status (Err s) same stops = subst (λ (t : Status). Stops took faults old new (page ++ text) t) (sym same) stops
+  pub puts_stopped : (old new : K) (text : List ℕ) (halt : Halt) (result : Result (Unit {0}) Halt)
+      → IsErrAnd result (λ h. h ≡ halt) → Stops took faults old new text halt → Puts took faults old new text result
+  puts_stopped old new text halt (Ok done) wrong stops = absurd wrong
+  puts_stopped old new text halt (Err h) same stops = subst (λ (t : Halt). Stops took faults old new text t) (sym same) stops
 
-  -- a text that stopped, when it was all of an answer but the last line
-  pub writes-stops : (old new : K) (first text : List ℕ) (status : Status) → first ≡ [] → Stops took faults old new (first ++ text) status
-      → Writes (answered Done (text ++ end_line)) took faults old new status
-  writes-stops old new first text status empty s =
-      let front : TookFront (took old) (took new) text = subst (λ l. TookFront (took old) (took new) (l ++ text)) empty s.front in
-      record {
-        only = inr s.only;
-        whole = λ a b. absurd (elim (s.only) as (λ _. ⊥) [ inl w ↦ a w | inr m ↦ b m ]);
-        front = front_put (took old) (took old) (took new) (text ++ end_line) text end_line (gathered_begin (took old) text end_line) front;
-        fault = λ e. inr (s.fault e);
-        quiet = λ a b. absurd (elim (s.only) as (λ _. ⊥) [ inl w ↦ a w | inr m ↦ b m ]);
-        later = s.later;
-      }
+  -- the gathering of lines on an empty page ended early, and no end follows
+  pub stops_lines : (old new : K) (first lines end : List ℕ) (halt : Halt) → first ≡ [] → Stops took faults old new (first ++ lines) halt → Stops took faults old new (lines ++ end) halt
+  stops_lines old new first lines end halt empty s =
+      stops_page took faults old new lines end halt (subst (λ f. Stops took faults old new (f ++ lines) halt) empty s)
 
-  -- a text was gathered, and the page was written with the last line
-  pub writes-page : (old mid new : K) (text first page : List ℕ) (status : Status) → first ≡ []
-      → Gathered (took old) (took mid) (first ++ text) page [] × (faults mid ≡ faults old)
-      → Writes (answered Done (page ++ end_line)) took faults mid new status → Writes (answered Done (text ++ end_line)) took faults old new status
-  writes-page old mid new text first page status empty so_far w =
-      let gathered : Gathered (took old) (took mid) text page [] = subst (λ l. Gathered (took old) (took mid) (l ++ text) page []) empty so_far.0 in
-      let more : Gathered (took old) (took mid) (text ++ end_line) page (end_line ++ []) = more_to_come (took old) (took mid) text page end_line gathered in
-      record {
-        only = w.only;
-        whole = λ a b. gathered_end (took old) (took mid) (took new) (text ++ end_line) (page ++ end_line) (written_line more) (w.whole a b);
-        front = front_then (took old) (took mid) (took new) (text ++ end_line) page end_line [] more w.front;
-        fault = λ e. elim (w.fault e) as (λ _. (Done ≡ WriteFault) ⊎ FaultsRose (faults old) (faults new)) [ inl other ↦ inl other | inr rose ↦ inr (subst (λ (n : ℕ). FaultsRose n (faults new)) so_far.1 rose) ];
-        quiet = λ a b. w.quiet a b ∙ so_far.1;
-        later = omega (arith, so_far.1, w.later);
-      }
-    where
-      written_line : Gathered (took old) (took mid) (text ++ end_line) page (end_line ++ []) → Gathered (took old) (took mid) (text ++ end_line) (page ++ end_line) []
-      written_line g = record { taken = g.taken; took = g.took; joins = ap (λ l. g.taken ++ l) (append_assoc page end_line []) ∙ g.joins }
+  -- lines were gathered on an empty page, and the gathering of the end ended early
+  pub stops_end : (old mid new : K) (first lines page next end : List ℕ) (halt : Halt) → first ≡ [] → Gathered took faults old mid (first ++ lines) page []
+      → Stops took faults mid new (page ++ end) halt → Stops took faults old new (lines ++ end) halt
+  stops_end old mid new first lines page next end halt empty g s =
+      gathers_then took faults old mid new [] page next lines end (Err halt) (subst (λ f. Gathered took faults old mid (f ++ lines) page []) empty g) s
 
-  -- the page's last line was gathered, and what is on the page was written
-  pub writes-gathered : (old mid new : K) (text page shown : List ℕ) (status : Status) → shown ≡ page
-      → Gathered (took old) (took mid) text page [] × (faults mid ≡ faults old)
-      → Writes (answered Done shown) took faults mid new status → Writes (answered Done text) took faults old new status
-  writes-gathered old mid new text page shown status same so_far w =
-      let gathered : Gathered (took old) (took mid) text shown [] = subst (λ p. Gathered (took old) (took mid) text p []) (sym same) so_far.0 in
-      record {
-        only = w.only;
-        whole = λ a b. gathered_end (took old) (took mid) (took new) text shown gathered (w.whole a b);
-        front = front_put (took old) (took mid) (took new) text shown [] gathered w.front;
-        fault = λ e. elim (w.fault e) as (λ _. (Done ≡ WriteFault) ⊎ FaultsRose (faults old) (faults new)) [ inl other ↦ inl other | inr rose ↦ inr (subst (λ (n : ℕ). FaultsRose n (faults new)) so_far.1 rose) ];
-        quiet = λ a b. w.quiet a b ∙ so_far.1;
-        later = omega (arith, so_far.1, w.later);
-      }
+  -- lines and an end were gathered on an empty page, which was written
+  pub puts_end : (old mid late new : K) (first lines page next shown end : List ℕ) (result : Result (Unit {0}) Halt) → first ≡ [] → Gathered took faults old mid (first ++ lines) page []
+      → Gathered took faults mid late (page ++ end) next [] → shown ≡ next → Puts took faults late new shown result → Puts took faults old new (lines ++ end) result
+  puts_end old mid late new first lines page next shown end result empty g h same p =
+      let all : Gathered took faults old late (lines ++ end) next [] =
+      gathers_then took faults old mid late [] page next lines end (Ok tt) (subst (λ f. Gathered took faults old mid (f ++ lines) page []) empty g) h in
+      puts_gathered took faults old late new [] (lines ++ end) next result refl all (subst (λ t. Puts took faults late new t result) same p)

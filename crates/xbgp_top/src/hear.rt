@@ -1,13 +1,14 @@
 //! The command `heard`: the table that a stream of messages announces, a line for each prefix.
 ghost use Rattle.std.specs.Prelude.{◌≡◌, ◌++◌, OnOk};
-ghost use Rattle.xbgp_top.specs.Answers.{answered, end_line, ended, heard_line, heard_outcome, table_lines};
-ghost use Rattle.xbgp_top.specs.Outputs.{Gathers, Writes};
+ghost use Rattle.xbgp_top.specs.Answers.{end_line, ended, heard_line, heard_outcome, table_lines};
+ghost use Rattle.xb_io.specs.Pages.{Gathers, Puts};
+ghost use Rattle.xbgp_top.specs.Outputs.{Writes};
 
 use crate::Status;
-use crate::output::{LINE, PAGE, begin_line, gather_text, refuse, write_page};
+use crate::output::{END_LINE, LINE, PAGE, end_status, refuse};
 use heard_table::{HeardError, Table, heard};
 use std::alloc::{AllocError, Global};
-use xb_io::Sink;
+use xb_io::{Halt, Sink, begin_line, gather, put_text};
 use xb_values::{Buf, Prefix, append_hex, append_prefix};
 
 // Room in a line for all but the digits of the section: a prefix of at most 18 octets, a space, `-` and the line's end.
@@ -37,33 +38,27 @@ fn gather_table<K: Sink>(
     table: &Table,
     page: &mut Buf,
     sink: &mut K,
-) -> Result<(), Status>
+) -> Result<(), Halt>
     ensures { Gathers K.took K.faults sink.old sink.new page.old.octets page.new.octets (table_lines table.now) result }
 {
     let mut line = Buf::make(alloc, LINE)?;
     let mut last = None;
     'entries: while let Some((prefix, section)) = table.after(last) {
         write_entry(alloc, &mut line, prefix, section)?;
-        gather_text(page, line.as_slice(), sink)?;
+        gather(page, line.as_slice(), sink)?;
         last = Some(prefix);
     }
     Ok(())
 }
 
-// Writes a table and the last line.
-fn print_table<K: Sink>(alloc: Global, table: &Table, sink: &mut K) -> Status
-    ensures {
-        let text = table_lines table.now ++ end_line in
-        Writes (answered Status.Done text) K.took K.faults sink.old sink.new result
-    }
+// Writes the lines of a table and the last line.
+fn put_table<K: Sink>(alloc: Global, table: &Table, sink: &mut K) -> Result<(), Halt>
+    ensures { Puts K.took K.faults sink.old sink.new (table_lines table.now ++ end_line) result }
 {
-    let Ok(mut page) = Buf::make(alloc, PAGE) else {
-        return Status::OutOfMemory;
-    };
-    match gather_table(alloc, table, &mut page, sink) {
-        Ok(()) => write_page(&mut page, sink),
-        Err(status) => status,
-    }
+    let mut page = Buf::make(alloc, PAGE)?;
+    gather_table(alloc, table, &mut page, sink)?;
+    gather(&mut page, END_LINE, sink)?;
+    put_text(sink, page.as_slice())
 }
 
 /// Writes the table that a stream announces, or the offset at which the stream is refused.
@@ -71,7 +66,7 @@ pub(crate) fn print_heard<K: Sink>(alloc: Global, octets: &[u8], sink: &mut K) -
     ensures { Writes (ended (heard_outcome octets.now)) K.took K.faults sink.old sink.new result }
 {
     match heard(alloc, octets) {
-        Ok(table) => print_table(alloc, &table, sink),
+        Ok(table) => end_status(put_table(alloc, &table, sink), Status::Done),
         Err(HeardError::OutOfMemory) => Status::OutOfMemory,
         Err(HeardError::Bad { at }) => refuse(alloc, Status::BadStream(at as u64), sink),
     }

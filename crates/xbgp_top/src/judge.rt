@@ -1,16 +1,17 @@
 //! The command `judge`: the verdict on each message of a stream, a line for each.
 ghost use Rattle.std.specs.Prelude.{◌≡◌, ◌≤◌, ◌++◌, ◌∷◌, [], codes, decimal, length, OnOk};
 ghost use Rattle.xb_values.specs.Texts.{hex_text, line as line_of};
-ghost use Rattle.xbgp_top.specs.Answers.{answered, end_line, ended, judge_line, judge_lines, judge_outcome, rest_offset};
-ghost use Rattle.xbgp_top.specs.Outputs.{Gathers, Writes};
+ghost use Rattle.xbgp_top.specs.Answers.{end_line, ended, judge_line, judge_lines, judge_outcome, rest_offset};
+ghost use Rattle.xb_io.specs.Pages.{Gathers, Puts};
+ghost use Rattle.xbgp_top.specs.Outputs.{Writes};
 ghost use Rattle.xbgp_top.specs.Views.{message_view};
 
 use crate::Status;
-use crate::output::{LINE, PAGE, begin_line, gather_text, refuse, write_page};
+use crate::output::{END_LINE, LINE, PAGE, end_status, refuse};
 use bgp_check::check_update;
 use bgp_update::{Messages, Msg};
 use std::alloc::{AllocError, Global};
-use xb_io::Sink;
+use xb_io::{Halt, Sink, begin_line, gather, put_text};
 use xb_values::{Buf, append_decimal, append_hex};
 use xb_wire::Notice;
 use xb_wire::numbers::UPDATE;
@@ -96,7 +97,7 @@ fn gather_verdicts<K: Sink>(
     octets: &[u8],
     page: &mut Buf,
     sink: &mut K,
-) -> Result<(), Status>
+) -> Result<(), Halt>
     ensures { Gathers K.took K.faults sink.old sink.new page.old.octets page.new.octets (judge_lines octets.now) result }
 {
     let mut line = Buf::make(alloc, LINE)?;
@@ -106,25 +107,19 @@ fn gather_verdicts<K: Sink>(
             return Ok(());
         };
         write_verdict(alloc, &mut line, &message)?;
-        gather_text(page, line.as_slice(), sink)?;
+        gather(page, line.as_slice(), sink)?;
     }
     Ok(())
 }
 
 // Writes the verdicts and the last line.
-fn print_verdicts<K: Sink>(alloc: Global, octets: &[u8], sink: &mut K) -> Status
-    ensures {
-        let text = judge_lines octets.now ++ end_line in
-        Writes (answered Status.Done text) K.took K.faults sink.old sink.new result
-    }
+fn put_verdicts<K: Sink>(alloc: Global, octets: &[u8], sink: &mut K) -> Result<(), Halt>
+    ensures { Puts K.took K.faults sink.old sink.new (judge_lines octets.now ++ end_line) result }
 {
-    let Ok(mut page) = Buf::make(alloc, PAGE) else {
-        return Status::OutOfMemory;
-    };
-    match gather_verdicts(alloc, octets, &mut page, sink) {
-        Ok(()) => write_page(&mut page, sink),
-        Err(status) => status,
-    }
+    let mut page = Buf::make(alloc, PAGE)?;
+    gather_verdicts(alloc, octets, &mut page, sink)?;
+    gather(&mut page, END_LINE, sink)?;
+    put_text(sink, page.as_slice())
 }
 
 /// Writes the verdict on each message of a stream, or the offset of what is left after its messages.
@@ -133,6 +128,6 @@ pub(crate) fn print_judged<K: Sink>(alloc: Global, octets: &[u8], sink: &mut K) 
 {
     match refused_at(octets) {
         Some(at) => refuse(alloc, Status::BadStream(at as u64), sink),
-        None => print_verdicts(alloc, octets, sink),
+        None => end_status(put_verdicts(alloc, octets, sink), Status::Done),
     }
 }

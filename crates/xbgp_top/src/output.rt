@@ -1,8 +1,8 @@
 //! The end of a run: a text or the line of a status is written, and the status says how that went.
-ghost use Rattle.std.specs.Prelude.{◌≡◌, ◌⊎◌, ◌+◌, ◌≤◌, ◌++◌, ◌∷◌, [], length, decimal, Err, IfOk, OnOk};
+ghost use Rattle.std.specs.Prelude.{◌≡◌, ◌⊎◌, ◌+◌, ◌≤◌, ◌++◌, ◌∷◌, [], length, decimal, Err, IfOk};
 ghost use Rattle.xb_values.specs.Texts.{spaced};
-ghost use Rattle.xbgp_top.specs.Answers.{answered, end_line, ended, fault_text};
-ghost use Rattle.xbgp_top.specs.Outputs.{Gathers, Writes};
+ghost use Rattle.xbgp_top.specs.Answers.{answered, ended, fault_text};
+ghost use Rattle.xbgp_top.specs.Outputs.{Writes, end_status};
 ghost use Rattle.xbgp_top.specs.Views.{text_view};
 ghost use Rattle.xbgp_top.specs.Words.{kind_word, part_word};
 
@@ -10,7 +10,7 @@ use crate::Status;
 use crate::word::{file_word, kind_word, load_word, part_word};
 use std::alloc::{AllocError, Global};
 use xb_domain::{BadKind, Part};
-use xb_io::{Sink, gather};
+use xb_io::{Halt, Sink};
 use xb_values::{Buf, append_decimal};
 
 /// How many octets go to the sink at once.
@@ -19,11 +19,25 @@ pub(crate) const PAGE: usize = 65_536;
 /// Room for most lines; a longer line gets more.
 pub(crate) const LINE: usize = 1_024;
 
+/// The last line of a whole text.
+pub(crate) const END_LINE: &[u8] = b"end\n";
+
 /// The line of Usage.
 pub(crate) const USAGE_LINE: &[u8] = b"fault usage\n";
 
 // Room for the line of any status: at most five words of 8 octets and two numbers of 10.
 const FAULT_ROOM: usize = 96;
+
+/// `status` if the text was written, or else why it wasn't.
+pub(crate) fn end_status(end: Result<(), Halt>, status: Status) -> Status
+    ensures { result ≡ end_status end status }
+{
+    match end {
+        Ok(()) => status,
+        Err(Halt::WriteFault) => Status::WriteFault,
+        Err(Halt::OutOfMemory) => Status::OutOfMemory,
+    }
+}
 
 /// Writes a text, and returns `status` unless the sink fails.
 pub(crate) fn write_all<K: Sink>(sink: &mut K, text: &[u8], status: Status) -> Status
@@ -121,37 +135,5 @@ pub(crate) fn print_text<K: Sink>(
     match text {
         Ok(text) => write_all(sink, text.as_slice(), Status::Done),
         Err(status) => refuse(alloc, status, sink),
-    }
-}
-
-/// Empties a line, and gives it at least that capacity.
-pub(crate) fn begin_line(alloc: Global, line: &mut Buf, capacity: usize) -> Result<(), AllocError>
-    ensures empty { OnOk result (line.new.octets ≡ []) }
-    ensures room { OnOk result (capacity ≤ line.new.capacity) }
-{
-    line.clear();
-    if line.room() < capacity {
-        *line = Buf::make(alloc, capacity)?;
-    }
-    Ok(())
-}
-
-/// Gathers a text on a page.
-pub(crate) fn gather_text<K: Sink>(page: &mut Buf, text: &[u8], sink: &mut K) -> Result<(), Status>
-    ensures { Gathers K.took K.faults sink.old sink.new page.old.octets page.new.octets text.now result }
-{
-    match gather(page, text, sink) {
-        Ok(()) => Ok(()),
-        Err(_) => Err(Status::WriteFault),
-    }
-}
-
-/// Adds the last line to a page, and writes the page.
-pub(crate) fn write_page<K: Sink>(page: &mut Buf, sink: &mut K) -> Status
-    ensures { Writes (answered Status.Done (page.old.octets ++ end_line)) K.took K.faults sink.old sink.new result }
-{
-    match gather_text(page, b"end\n", sink) {
-        Ok(()) => write_all(sink, page.as_slice(), Status::Done),
-        Err(status) => status,
     }
 }

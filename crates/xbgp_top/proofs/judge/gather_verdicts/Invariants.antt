@@ -6,10 +6,8 @@ use Rattle.xbgp_top.proofs.judge.gather_verdicts.Given as goal
 
 -- the lines so far are gathered, and those of the messages that are left are still to come
 abbrev pub invariant-messages : goal.invariant-messages
-invariant-messages g l = record {
-  gathered : Gathered (g.K.Sink.took l.fn.sink) (g.K.Sink.took l.sink) (l.fn.page.octets ++ judge_lines l.octets) l.page.octets (lines_of l.messages);
-  quiet : g.K.Sink.faults l.sink ≡ g.K.Sink.faults l.fn.sink;
-}
+invariant-messages g l =
+    Gathered g.K.Sink.took g.K.Sink.faults l.fn.sink l.sink (l.fn.page.octets ++ judge_lines l.octets) l.page.octets (lines_of l.messages)
 
 abbrev pub decreases-messages : goal.decreases-messages
 decreases-messages g l = length l.messages
