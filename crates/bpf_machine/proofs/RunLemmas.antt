@@ -112,6 +112,6 @@ module _ (code : List ℕ) (slot : ℕ) (sound : IsSound code slot) (accepted : 
 
     pub allowed-Calls : (allowed now : ℕ → Bool) → CallsOnly allowed code → ((n : ℕ) → now n ≡ allowed n) → low 32 (insn_at code slot).imm ≡ raw_imm code slot → IsTrue (now number)
     unfolding Follows
-    allowed-Calls allowed now calls same low_half =
+    allowed-Calls allowed now only same low_half =
         let is : number ≡ raw_imm code slot = asks_follows.2 ∙ low_half in
-        same number ∙ ap allowed is ∙ calls.each slot here asks_follows.1
+        same number ∙ ap allowed is ∙ only.each slot here asks_follows.1

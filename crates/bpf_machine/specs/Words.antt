@@ -40,7 +40,7 @@ signed_quotient b x y =
     if y == 0 then 0
     else
     signed_as b (if is_negative b x then not (is_negative b y) else is_negative b y)
-        (magnitude b x / magnitude b y)
+    (magnitude b x / magnitude b y)
 
 abbrev pub signed_remainder : ℕ → ℕ → ℕ → ℕ
 signed_remainder b x y = if y == 0 then x else signed_as b (is_negative b x) (magnitude b x % magnitude b y)
