@@ -4,6 +4,8 @@
 
 mod actor;
 mod bad;
+mod output;
 
 pub use actor::{Event, Point, Side, helper_allowed};
+pub use output::Packing;
 pub use bad::{BadKind, Part};

@@ -7,10 +7,12 @@
 //! above.
 #![tactic(auto)]
 
+mod front;
 mod header;
 pub mod laws;
 mod notice;
 pub mod numbers;
 
+pub use front::{Next, front_of};
 pub use header::{HeaderFault, fault_in_header};
 pub use notice::Notice;

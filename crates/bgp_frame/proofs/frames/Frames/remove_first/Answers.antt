@@ -1,0 +1,17 @@
+use Rattle.std.proofs.Common.{ap, ◌∙◌}
+use Rattle.xb_wire.specs.Messages.{message_size}
+use Rattle.bgp_frame.specs.Waiting.{Waiting}
+use Rattle.bgp_frame.proofs.WaitingLemmas.{kept_next, waiting_next}
+use Rattle.bgp_frame.proofs.frames.Frames.remove_first.Goals as goal
+
+pub invariant_of-self : goal.invariant_of-self
+invariant_of-self c =
+    let f = c.self.inside in
+    let front = ap (λ (w : Waiting). message_size w.waits) c.self.view_is ∙ c.requires in
+    rw c.from.ensures (kept_next f.octets.items f.body f.start _ c.args.len c.self.invariant front)
+
+pub returns : goal.returns
+returns c =
+    let f = c.self.inside in
+    let front = ap (λ (w : Waiting). message_size w.waits) c.self.view_is ∙ c.requires in
+    rw (c.from.ensures, ← c.self.view_is) (waiting_next f.octets.items f.start c.args.len front)
