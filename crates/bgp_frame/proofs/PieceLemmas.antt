@@ -4,9 +4,9 @@ use Rattle.std.specs.Prelude.{fold}
 use Rattle.std.specs.List.{concat}
 use Rattle.std.proofs.lemmas.List.{append_assoc, append-nil}
 use Rattle.xb_words.specs.Cut.{Pieces, after_item, cut, cut_turns}
-use Rattle.xb_words.proofs.Cutting.{opened, cut-append, cut-some, cut-none}
+use Rattle.xb_words.proofs.CutLemmas.{cut_by, cut-append, cut-some, cut-none}
 use Rattle.xb_wire.specs.Messages.{message_size, front_fault, split, stream_fault}
-use Rattle.xb_wire.proofs.Streams.{message_is_size, message_is_stable}
+use Rattle.xb_wire.proofs.MessageLemmas.{message_size_is_size, message_size_is_stable}
 use Rattle.bgp_frame.specs.Pieces.{Taken, drained_in, drained, fed_piece, fed}
 use Rattle.xb_wire.specs.Fronts.{IsNext}
 use Rattle.bgp_frame.specs.Fronts.{IsFirst}
@@ -26,7 +26,7 @@ before messages p = taken (messages ++ p.items) p.rest
 drained_in-cut : (turns : ℕ) (ms : List (List ℕ)) (s : List ℕ) → drained_in turns (taken ms s) ≡ before ms (cut_turns message_size turns s)
 drained_in-cut zero ms s = ap (λ m. taken m s) (sym (append-nil ms))
 drained_in-cut (suc turns) ms s =
-    elim (message_size s) as (λ o. (elim o [ None ↦ taken ms s | Some len ↦ drained_in turns (taken (ms ++ take len s ∷ []) (drop len s)) ]) ≡ before ms (opened message_size s turns o)) [
+    elim (message_size s) as (λ o. (elim o [ None ↦ taken ms s | Some len ↦ drained_in turns (taken (ms ++ take len s ∷ []) (drop len s)) ]) ≡ before ms (cut_by message_size s turns o)) [
       | None ↦ ap (λ m. taken m s) (sym (append-nil ms))
       | Some len ↦
           let p = cut_turns message_size turns (drop len s) in
@@ -38,7 +38,7 @@ unfolding drained cut
 drained-split ms s = drained_in-cut (length s) ms s
 
 fed_piece-split : (s p : List ℕ) → fed_piece (before [] (split s)) p ≡ before [] (split (s ++ p))
-fed_piece-split s p = drained-split (split s).items ((split s).rest ++ p) ∙ ap (before []) (sym (cut-append message_size message_is_size message_is_stable s p))
+fed_piece-split s p = drained-split (split s).items ((split s).rest ++ p) ∙ ap (before []) (sym (cut-append message_size message_size_is_size message_size_is_stable s p))
 
 fold-fed_piece : (s : List ℕ) (ps : List (List ℕ)) → fold fed_piece (before [] (split s)) ps ≡ before [] (split (s ++ concat ps))
 fold-fed_piece s [] = ap (λ x. before [] (split x)) (sym (append-nil s))
@@ -52,12 +52,12 @@ fed-split ps = fold-fed_piece [] ps
 
 -- a whole message at the front is the first of the split
 split-whole : (s : List ℕ) (len : ℕ) → message_size s ≡ Some len → split s ≡ after_item (take len s) (split (drop len s))
-split-whole s len e = cut-some message_size message_is_size s len e
+split-whole s len e = cut-some message_size message_size_is_size s len e
 
 -- octets that begin with no whole message are the rest of the split
 no_first : (s : List ℕ) → message_size s ≡ None → (split s ≡ pieces s) × (stream_fault s ≡ front_fault s)
 no_first s e =
-    let whole = cut-none message_size message_is_size s e in
+    let whole = cut-none message_size message_size_is_size s e in
     (whole, ap (λ (p : Pieces). front_fault p.rest) whole)
 
 -- what is at the front is first in the split

@@ -2,9 +2,9 @@
 use Rattle.std.proofs.Common.{◌≡◌, sym, ap, ◌∙◌, ℕ, ◌+◌, ◌-◌, ◌≤◌, List, length, take, drop, Some, arith}
 use Rattle.std.proofs.lemmas.List.{length-drop, drop-drop, drop-take, length-take-le}
 use Rattle.std.specs.Prelude.{slice_range}
-use Rattle.xb_wire.specs.Messages.{message_size, body_of}
-use Rattle.xb_wire.proofs.Streams.{message_is_size}
-use Rattle.xb_wire.proofs.FrontLemmas.{HasMessageLength-size}
+use Rattle.xb_wire.specs.Messages.{message_size, message_body}
+use Rattle.xb_wire.proofs.MessageLemmas.{message_size_is_size}
+use Rattle.xb_wire.proofs.MessageLemmas.{HasMessageLength-size}
 use Rattle.bgp_frame.specs.Waiting.{Waiting, IsKept}
 
 -- what waits, and the last body
@@ -15,7 +15,7 @@ waiting waits body = record { waits = waits; body = body }
 pub kept_next : (octets : List ℕ) (body start capacity len : ℕ) → IsKept octets body start capacity → message_size (drop start octets) ≡ Some len → IsKept octets (start + 19) (start + len) capacity
 kept_next octets body start capacity len kept e =
     let bounds = HasMessageLength-size (drop start octets) len e in
-    let size = message_is_size (drop start octets) len e in
+    let size = message_size_is_size (drop start octets) len e in
     let left = length-drop start octets in
     record {
       order = omega (arith, bounds.header);
@@ -28,7 +28,7 @@ kept_next octets body start capacity len kept e =
 
 -- what waits and the last body after the first message was removed
 pub waiting_next : (octets : List ℕ) (start len : ℕ) → message_size (drop start octets) ≡ Some len
-    → waiting (drop (start + len) octets) (slice_range octets (start + 19) (start + len)) ≡ waiting (drop len (drop start octets)) (body_of (take len (drop start octets)))
+    → waiting (drop (start + len) octets) (slice_range octets (start + 19) (start + len)) ≡ waiting (drop len (drop start octets)) (message_body (take len (drop start octets)))
 waiting_next octets start len e =
     let bounds = HasMessageLength-size (drop start octets) len e in
     let rest : len ≡ 19 + (len - 19) = omega (arith, bounds.header) in

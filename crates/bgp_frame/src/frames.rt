@@ -1,6 +1,6 @@
 // The buffer of a stream that comes in pieces.
 ghost use Rattle.std.specs.Prelude.{◌≡◌, ◌↔◌, ◌<◌, ◌≤◌, ◌+◌, ◌-◌, ◌++◌, [], length, take, drop, min, Some, IfOk, vec_capacity};
-ghost use Rattle.xb_wire.specs.Messages.{message_size, body_of};
+ghost use Rattle.xb_wire.specs.Messages.{message_size, message_body};
 ghost use Rattle.xb_wire.specs.Fronts.{IsNext};
 ghost use Rattle.bgp_frame.specs.Waiting.{Waiting};
 ghost use Rattle.bgp_frame.specs.Fronts.{after_next, HasSizedBody};
@@ -99,7 +99,7 @@ impl Frames {
     // Keeps the body of the first message; the octets after it wait.
     fn remove_first(&mut self, len: u16)
         requires { message_size self.old.waits ≡ Some len }
-        ensures { self.new ≡ record { waits = drop len self.old.waits; body = body_of (take len self.old.waits) } }
+        ensures { self.new ≡ record { waits = drop len self.old.waits; body = message_body (take len self.old.waits) } }
     {
         self.body = self.start + HEADER;
         self.start += usize::from(len);

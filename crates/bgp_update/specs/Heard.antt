@@ -2,10 +2,10 @@
 -- then announces prefixes with a section of path attributes.
 use Rattle.std.specs.Prelude.{ℕ, Bool, List, [], length, Option, Some, None, Result, Ok, Err, find, fold, not, ◌==◌, ◌&&◌, if◌then◌else◌}
 use Rattle.std.specs.List.{concat}
-use Rattle.xb_words.specs.Cut.{placed}
+use Rattle.xb_words.specs.Cut.{with_offsets}
 use Rattle.xb_words.specs.Table.{with_value, without}
 use Rattle.xb_values.specs.Prefixes.{Sections, prefix_cmp, prefixes, are_prefixes}
-use Rattle.xb_wire.specs.Messages.{Update, split, kind_of, body_of, lengths_fit, update_parts}
+use Rattle.xb_wire.specs.Messages.{Update, split, message_kind, message_body, lengths_fit, update_parts}
 use Rattle.xb_wire.specs.declared.numbers.TheConstants.{UPDATE}
 
 -- the table without the prefixes that octets write
@@ -23,7 +23,7 @@ after_update table u = announced_in (withdrawn_from table u.withdrawn) u.nlri u.
 -- the table after a message; messages of other types change nothing
 abbrev pub after_message : Sections → List ℕ → Sections
 after_message table message =
-    if kind_of message == UPDATE then after_update table (update_parts (body_of message)) else table
+    if message_kind message == UPDATE then after_update table (update_parts (message_body message)) else table
 
 -- whether the lengths of an UPDATE's body fit it and its prefixes are whole
 abbrev pub is_readable : List ℕ → Bool
@@ -32,12 +32,12 @@ is_readable body =
 
 -- whether a message is an UPDATE that cannot be read
 abbrev pub is_refused : List ℕ → Bool
-is_refused message = (kind_of message == UPDATE) && not (is_readable (body_of message))
+is_refused message = (message_kind message == UPDATE) && not (is_readable (message_body message))
 
 -- the offset of the first refused message, or else of octets after the last message
 abbrev pub refusal : List ℕ → Option ℕ
 refusal s =
-    elim (find (λ m. is_refused m.1) (placed 0 (split s).items)) [
+    elim (find (λ m. is_refused m.1) (with_offsets 0 (split s).items)) [
       | Some m ↦ Some m.0
       | None ↦ if length (split s).rest == 0 then None else Some (length (concat (split s).items))
     ]

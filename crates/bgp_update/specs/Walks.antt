@@ -2,7 +2,7 @@
 use Rattle.std.specs.Prelude.{ℕ, List, Result}
 use Rattle.xb_words.specs.Cut.{walk_from}
 use Rattle.xb_values.specs.Prefixes.{Prefix, prefix_at, prefix_size}
-use Rattle.xb_wire.specs.Messages.{message_size, kind_of, body_of}
+use Rattle.xb_wire.specs.Messages.{message_size, message_kind, message_body}
 
 -- a message of a stream: the offset of its first octet, its type and its body
 pub record FoundMessage : Type 0 where
@@ -12,7 +12,7 @@ pub record FoundMessage : Type 0 where
 
 -- a message, by its offset and its octets
 abbrev pub found_message : ℕ → List ℕ → FoundMessage
-found_message at message = record { at = at; kind = kind_of message; body = body_of message }
+found_message at message = record { at = at; kind = message_kind message; body = message_body message }
 
 -- the steps over a stream whose first octet has the offset `at`; the error is the offset of a header that is refused
 -- or of octets that are no whole message (RFC 4271, sections 4.1 and 6.1)

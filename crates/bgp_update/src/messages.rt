@@ -1,6 +1,6 @@
 // The messages of a stream.
 ghost use Rattle.std.specs.Prelude.{◌≡◌, [], ◌∷◌, ◌+◌, length, IfSome, IfNone, IfOk};
-ghost use Rattle.xb_wire.specs.Fronts.{HasMessageLength};
+ghost use Rattle.xb_wire.specs.Messages.{HasMessageLength};
 ghost use Rattle.bgp_update.specs.Walks.{messages_from};
 ghost use Rattle.bgp_update.specs.Views.{message_step_view};
 
@@ -45,7 +45,7 @@ impl<'a> Messages<'a> {
 
     /// The next message, or the offset of a header that is refused or of octets that are no whole message. Nothing
     /// comes after such an error.
-    #[tactic(auto, using(xb_wire::proofs::Streams::message_is_size, crate::proofs::WalkLemmas::messages_some, crate::proofs::WalkLemmas::messages_error, crate::proofs::WalkLemmas::messages_nil))]
+    #[tactic(auto, using(xb_wire::proofs::MessageLemmas::message_size_is_size, crate::proofs::WalkLemmas::messages_some, crate::proofs::WalkLemmas::messages_error, crate::proofs::WalkLemmas::messages_nil))]
     pub fn next(&mut self) -> Option<Result<Msg<'a>, usize>>
         ensures item { IfSome result (λ r. self.old ≡ message_step_view r ∷ self.new) }
         ensures sized { IfSome result (λ r. IfOk r (λ m. HasMessageLength m.kind (HEADER + length m.body.now))) }

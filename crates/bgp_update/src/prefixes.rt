@@ -66,7 +66,7 @@ impl<'a> Prefixes<'a> {
     }
 
     /// The next prefix, with its host bits cleared. Nothing comes after an error.
-    #[tactic(auto, using(xb_values::proofs::PrefixLemmas::prefix_is_size, crate::proofs::WalkLemmas::prefixes_some, crate::proofs::WalkLemmas::prefixes_error, crate::proofs::WalkLemmas::prefixes_nil))]
+    #[tactic(auto, using(xb_values::proofs::PrefixLemmas::prefix_size_is_size, crate::proofs::WalkLemmas::prefixes_some, crate::proofs::WalkLemmas::prefixes_error, crate::proofs::WalkLemmas::prefixes_nil))]
     pub fn next(&mut self) -> Option<Result<Prefix, BadPrefix>>
         ensures item { IfSome result (λ r. self.old ≡ prefix_step_view r ∷ self.new) }
         ensures end { IfNone result ((self.old ≡ []) × (self.new ≡ [])) }

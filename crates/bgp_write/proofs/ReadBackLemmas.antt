@@ -9,13 +9,13 @@ use Rattle.std.proofs.lemmas.Nat.{from_be_bytes-to_be_bytes_2, from_be_bytes-to_
 use Rattle.std.proofs.Math.Nat.{mul-div_cancel, mul-mod_left, mul_assoc, div-one}
 use Rattle.xb_words.specs.Octets.{two_at, two_octets, four_at, four_octets}
 use Rattle.xb_words.specs.Cut.{cut, IsStable, IsItem, Pieces}
-use Rattle.xb_words.proofs.Cutting.{cut-joined}
+use Rattle.xb_words.proofs.CutLemmas.{cut-concat}
 use Rattle.xb_wire.specs.Messages.{Update, update_body, update_of, split, message_size, IsMessage}
-use Rattle.xb_wire.proofs.Streams.{message_is_size, message_is_stable}
+use Rattle.xb_wire.proofs.MessageLemmas.{message_size_is_size, message_size_is_stable}
 use Rattle.bgp_write.specs.Written.{open_body}
 use Rattle.bgp_write.proofs.PackingLemmas.{slice_range-part}
 use Rattle.xb_values.specs.Prefixes.{Prefix, prefix_of, prefix_at, prefix_octets, prefix_size, prefixes, are_prefixes, octets_for, cleared, IsPrefix}
-use Rattle.xb_values.proofs.PrefixLemmas.{prefix_is_size}
+use Rattle.xb_values.proofs.PrefixLemmas.{prefix_size_is_size}
 
 -- octets after a prefix do not change its size
 pub prefix_is_stable : IsStable prefix_size

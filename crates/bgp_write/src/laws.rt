@@ -2,7 +2,7 @@
 ghost use Rattle.std.specs.Prelude.{◌≡◌, ◌+◌, ◌<◌, ◌^◌, ℕ, List, [], ◌∷◌, length, flat_map, Some, true, if◌then◌else◌};
 ghost use Rattle.std.specs.List.{AllByRecursion};
 ghost use Rattle.xb_words.specs.Octets.{two_at, four_at};
-ghost use Rattle.xb_wire.specs.Messages.{Update, message, kind_of, body_of, split, update_body, update_message, update_of, IsMessage};
+ghost use Rattle.xb_wire.specs.Messages.{Update, message, message_kind, message_body, split, update_body, update_message, update_of, IsMessage};
 ghost use Rattle.xb_values.specs.Prefixes.{Prefix, prefixes, are_prefixes, prefix_octets, IsPrefix};
 ghost use Rattle.bgp_write.specs.Written.{open_body};
 ghost use Rattle.bgp_write.specs.Packings.{Packed, packed_message};
@@ -12,7 +12,7 @@ use xb_wire::numbers::EMPTY_UPDATE;
 /// A message that is written is read as that one message, with its type and its body.
 pub fn message_is_read_again()
     ensures alone { (m : List ℕ) → IsMessage m → split m ≡ record { items = m ∷ []; rest = [] } }
-    ensures parts { (kind : ℕ) (body : List ℕ) → (kind_of (message kind body) ≡ kind) × (body_of (message kind body) ≡ body) }
+    ensures parts { (kind : ℕ) (body : List ℕ) → (message_kind (message kind body) ≡ kind) × (message_body (message kind body) ≡ body) }
 {}
 
 /// The body of an OPEN has the AS number at offset 1, the hold time at 3 and the identifier at 5 (RFC 4271, section

@@ -1,4 +1,4 @@
 pub mod Messages
 pub mod Headers
-pub mod Notices
+pub mod Views
 pub mod Fronts

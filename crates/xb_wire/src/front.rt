@@ -3,7 +3,7 @@ ghost use Rattle.std.specs.Prelude.{◌≡◌};
 ghost use Rattle.xb_wire.specs.Fronts.{IsNext, IsSized};
 
 use crate::header::{HeaderFault, fault_in_header};
-use crate::numbers::HEADER;
+use crate::numbers::{HEADER, MARKER};
 use xb_words::u16_at;
 
 /// What is at the front of octets of a stream: a whole message of a type and a length, which counts the header too;
@@ -26,12 +26,12 @@ pub fn front_of(octets: &[u8]) -> Next
     if let Some(fault) = fault_in_header(octets) {
         return Next::Fault(fault);
     }
-    let len = u16_at(octets, 16);
+    let len = u16_at(octets, MARKER);
     if octets.len() < usize::from(len) {
         return Next::More;
     }
     Next::Whole {
-        kind: octets[18],
+        kind: octets[MARKER + 2],
         len,
     }
 }

@@ -7,7 +7,7 @@ use Rattle.xb_wire.specs.Messages.{split}
 use Rattle.bgp_update.specs.Heard.{heard}
 use Rattle.bgp_update.specs.Walks.{FoundMessage, found_message}
 use Rattle.bgp_check.specs.Judgement.{judge}
-use Rattle.xb_words.specs.Cut.{placed}
+use Rattle.xb_words.specs.Cut.{with_offsets}
 use Rattle.std.specs.List.{concat}
 use Rattle.xbgp_top.specs.declared.status.File.{File}
 use Rattle.xbgp_top.specs.declared.status.File.TheVariants.{Input}

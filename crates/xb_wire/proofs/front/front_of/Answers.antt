@@ -1,6 +1,7 @@
 use Rattle.std.proofs.Common.{rules, ◌≡◌, Some}
 use Rattle.xb_wire.specs.Messages.{message_size}
-use Rattle.xb_wire.proofs.FrontLemmas.{whole_at_front, HasMessageLength-size}
+use Rattle.xb_wire.proofs.MessageLemmas.{HasMessageLength-size}
+use Rattle.xb_wire.proofs.FrontLemmas.{whole_at_front}
 use Rattle.xb_wire.proofs.front.front_of.Goals as goal
 
 pub returns-clause-front : goal.returns-clause-front
