@@ -31,7 +31,10 @@ impl Model for Frames {
 
     ghost Value = { Waiting };
 
-    ghost view = { λ f. record { waits = drop f.start f.octets.items; body = slice_range f.octets.items f.body f.start } };
+    ghost view = { λ f. record {
+      waits = drop f.start f.octets.items;
+      body = slice_range f.octets.items f.body f.start;
+    } };
 
     ghost invariant = { λ f. IsKept f.octets.items f.body f.start (vec_capacity f.octets) };
 }

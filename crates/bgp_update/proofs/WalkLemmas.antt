@@ -22,6 +22,9 @@ messages_error = walk_from-error message_size message_size_is_size found_message
 pub messages_nil : (at : ℕ) (s : List ℕ) → length s ≡ 0 → messages_from at s ≡ []
 messages_nil = walk_from-nil message_size message_size_is_size found_message (λ i. i)
 
+-- the next step over messages, whatever is at the front
+pub ruleset message_steps = (message_size_is_size, messages_some, messages_error, messages_nil)
+
 -- a whole prefix at the front is the next step
 pub prefixes_some : (s : List ℕ) (n : ℕ) → prefix_size s ≡ Some n → prefixes_from s ≡ Ok (prefix_at (take n s)) ∷ prefixes_from (drop n s)
 prefixes_some s n h =
@@ -35,6 +38,9 @@ prefixes_error = walk_from-error prefix_size prefix_size_is_size (λ i. prefix_a
 -- no octets give no step
 pub prefixes_nil : (s : List ℕ) → length s ≡ 0 → prefixes_from s ≡ []
 prefixes_nil = walk_from-nil prefix_size prefix_size_is_size (λ i. prefix_at) (λ i. tt) 0
+
+-- the next step over prefixes, whatever is at the front
+pub ruleset prefix_steps = (prefix_size_is_size, prefixes_some, prefixes_error, prefixes_nil)
 
 -- if no octets are left, the steps are the messages
 messages_walked : (at : ℕ) (items : List (List ℕ)) → walk found_message (λ i. i) at items [] ≡ map (λ m. Ok (found_message m.0 m.1)) (with_offsets at items)

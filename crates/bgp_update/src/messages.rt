@@ -36,7 +36,7 @@ impl<'a> Model for Messages<'a> {
 }
 
 impl<'a> Messages<'a> {
-    /// The messages of a stream, of which `bytes` are all octets.
+    /// The messages of the stream `bytes`.
     pub fn new(bytes: &'a [u8]) -> Messages<'a>
         ensures { result ≡ messages_from 0 bytes.now }
     {
@@ -45,7 +45,7 @@ impl<'a> Messages<'a> {
 
     /// The next message, or the offset of a header that is refused or of octets that are no whole message. Nothing
     /// comes after such an error.
-    #[tactic(auto, using(xb_wire::proofs::MessageLemmas::message_size_is_size, crate::proofs::WalkLemmas::messages_some, crate::proofs::WalkLemmas::messages_error, crate::proofs::WalkLemmas::messages_nil))]
+    #[tactic(auto, using(crate::proofs::WalkLemmas::message_steps))]
     pub fn next(&mut self) -> Option<Result<Msg<'a>, usize>>
         ensures item { IfSome result (λ r. self.old ≡ message_step_view r ∷ self.new) }
         ensures sized { IfSome result (λ r. IfOk r (λ m. HasMessageLength m.kind (HEADER + length m.body.now))) }

@@ -58,7 +58,7 @@ fn address_in(octets: &[u8]) -> u32
 }
 
 impl<'a> Prefixes<'a> {
-    /// The prefixes of octets that are all in `bytes`.
+    /// The prefixes that `bytes` write.
     pub fn new(bytes: &'a [u8]) -> Prefixes<'a>
         ensures { result ≡ prefixes_from bytes.now }
     {
@@ -66,7 +66,7 @@ impl<'a> Prefixes<'a> {
     }
 
     /// The next prefix, with its host bits cleared. Nothing comes after an error.
-    #[tactic(auto, using(xb_values::proofs::PrefixLemmas::prefix_size_is_size, crate::proofs::WalkLemmas::prefixes_some, crate::proofs::WalkLemmas::prefixes_error, crate::proofs::WalkLemmas::prefixes_nil))]
+    #[tactic(auto, using(crate::proofs::WalkLemmas::prefix_steps))]
     pub fn next(&mut self) -> Option<Result<Prefix, BadPrefix>>
         ensures item { IfSome result (λ r. self.old ≡ prefix_step_view r ∷ self.new) }
         ensures end { IfNone result ((self.old ≡ []) × (self.new ≡ [])) }
@@ -88,7 +88,7 @@ impl<'a> Prefixes<'a> {
     }
 }
 
-// The prefix that octets write which are one whole prefix.
+// The prefix that the octets of one whole prefix write.
 fn prefix_in(item: &[u8]) -> Option<Prefix>
     requires { prefix_size item.now ≡ Some (length item.now) }
     ensures { result ≡ Some (prefix_at item.now) }

@@ -94,6 +94,9 @@ length_grown false start out x is =
     let p = prefixes_in false start out.octets in
     omega (arith, ap length is.whole, length-append (s ++ p) [], length-append s p, length-append s (p ++ x), length-append p x)
 
+-- what is so after octets of prefixes were inserted
+pub ruleset packing_grown = (packed_in_grown, is_grown, length_grown)
+
 -- an UPDATE by its two lengths and the octets after them
 abbrev update_by : ℕ → ℕ → List ℕ → List ℕ
 update_by size first rest = replicate 16 255 ++ two_octets size ++ 2 ∷ [] ++ two_octets first ++ rest

@@ -102,7 +102,7 @@ flat_map-prefix_octets (p ∷ ps) = ap (λ s. prefix_octets p ++ s) (flat_map-pr
 pub cut-flat_map : (ps : List Prefix) → AllByRecursion IsPrefix ps → cut prefix_size (flat_map prefix_octets ps) ≡ record { items = map prefix_octets ps; rest = [] }
 cut-flat_map ps all =
     ap (cut prefix_size) (flat_map-prefix_octets ps ∙ sym (append-nil (concat (map prefix_octets ps))))
-    ∙ cut-joined prefix_size prefix_is_size prefix_is_stable (map prefix_octets ps) [] (items_are_prefixes ps all) refl
+    ∙ cut-concat prefix_size prefix_size_is_size prefix_is_stable (map prefix_octets ps) [] (items_are_prefixes ps all) refl
 
 -- prefixes are read from the octets of all of them
 pub prefixes-flat_map : (ps : List Prefix) → AllByRecursion IsPrefix ps → prefixes (flat_map prefix_octets ps) ≡ ps
@@ -161,4 +161,4 @@ open_body-fields asn hold id small_asn small_hold small_id = (from_be_bytes-to_b
 -- a stream of one message is split into it
 pub split-message : (m : List ℕ) → IsMessage m → split m ≡ record { items = m ∷ []; rest = [] }
 split-message m is =
-    ap split (sym (append-nil (m ++ []) ∙ append-nil m)) ∙ cut-joined message_size message_is_size message_is_stable (m ∷ []) [] (is, tt) refl
+    ap split (sym (append-nil (m ++ []) ∙ append-nil m)) ∙ cut-concat message_size message_size_is_size message_size_is_stable (m ∷ []) [] (is, tt) refl

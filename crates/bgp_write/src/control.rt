@@ -5,11 +5,9 @@ ghost use Rattle.bgp_write.specs.Written.{Replaces, header, open_message, keepal
 
 use xb_values::Buf;
 use xb_wire::numbers::{
-    HEADER, KEEPALIVE, MAX_BODY, MAX_MESSAGE, MAX_NOTICE_DATA, NOTIFICATION, OPEN, VERSION,
+    HEADER, KEEPALIVE, LEAST_NOTIFICATION, LEAST_OPEN, MARKER, MAX_BODY, MAX_MESSAGE,
+    MAX_NOTICE_DATA, NOTIFICATION, OPEN, VERSION,
 };
-
-// Octets of an OPEN's body without parameters: version, AS number, hold time, identifier, and the parameters' length.
-const OPEN_BODY: u16 = 10;
 
 // Replaces the content by the header of a message whose body has `size` octets.
 fn begin(out: &mut Buf, kind: u8, size: u16)
@@ -18,7 +16,7 @@ fn begin(out: &mut Buf, kind: u8, size: u16)
     ensures { Replaces out.old out.new (header kind size) }
 {
     out.clear();
-    out.append(&[255; 16]);
+    out.append(&[255; MARKER]);
     out.append(&(HEADER as u16 + size).to_be_bytes());
     out.append(&[kind]);
 }
@@ -31,7 +29,7 @@ pub fn write_open(out: &mut Buf, asn: u32, hold: u16, id: u32)
     ensures written { Replaces out.old out.new (open_message asn hold id) }
     ensures message { IsMessage out.new.octets }
 {
-    begin(out, OPEN, OPEN_BODY);
+    begin(out, OPEN, (LEAST_OPEN - HEADER) as u16);
     out.append(&[VERSION]);
     out.append(&(asn as u16).to_be_bytes());
     out.append(&hold.to_be_bytes());
@@ -55,7 +53,11 @@ pub fn write_notice(out: &mut Buf, code: u8, subcode: u8, extra: &[u8])
     ensures written { Replaces out.old out.new (notice_message code subcode extra.now) }
     ensures message { IsMessage out.new.octets }
 {
-    begin(out, NOTIFICATION, extra.len() as u16 + 2);
+    begin(
+        out,
+        NOTIFICATION,
+        (LEAST_NOTIFICATION - HEADER + extra.len()) as u16,
+    );
     out.append(&[code, subcode]);
     out.append(extra);
 }

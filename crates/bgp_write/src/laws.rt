@@ -12,7 +12,8 @@ use xb_wire::numbers::EMPTY_UPDATE;
 /// A message that is written is read as that one message, with its type and its body.
 pub fn message_is_read_again()
     ensures alone { (m : List ℕ) → IsMessage m → split m ≡ record { items = m ∷ []; rest = [] } }
-    ensures parts { (kind : ℕ) (body : List ℕ) → (message_kind (message kind body) ≡ kind) × (message_body (message kind body) ≡ body) }
+    ensures parts { (kind : ℕ) (body : List ℕ)
+        → (message_kind (message kind body) ≡ kind) × (message_body (message kind body) ≡ body) }
 {}
 
 /// The body of an OPEN has the AS number at offset 1, the hold time at 3 and the identifier at 5 (RFC 4271, section
@@ -26,7 +27,8 @@ pub fn open_is_read_again()
 /// The parts of an UPDATE are read from its body, and the prefixes from the octets of all of them (RFC 4271, section
 /// 4.3).
 pub fn update_is_read_again()
-    ensures parts { (u : Update) → length u.withdrawn < 2 ^ 16 → length u.section < 2 ^ 16 → update_of (update_body u) ≡ Some u }
+    ensures parts { (u : Update) → length u.withdrawn < 2 ^ 16 → length u.section < 2 ^ 16
+        → update_of (update_body u) ≡ Some u }
     ensures prefixes { (ps : List Prefix) → AllByRecursion IsPrefix ps → prefixes (flat_map prefix_octets ps) ≡ ps }
     ensures whole { (ps : List Prefix) → AllByRecursion IsPrefix ps → are_prefixes (flat_map prefix_octets ps) ≡ true }
 {}

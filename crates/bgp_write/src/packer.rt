@@ -136,11 +136,12 @@ impl<'a> Packer<'a> {
 
     /// Appends a prefix to the others. It is false exactly if the message would have more than 4,096 octets, and then
     /// nothing changed.
-    #[tactic(auto, using(crate::proofs::PackingLemmas::packed_in_grown, crate::proofs::PackingLemmas::is_grown, crate::proofs::PackingLemmas::length_grown))]
+    #[tactic(auto, using(crate::proofs::PackingLemmas::packing_grown))]
     pub fn push(&mut self, prefix: Prefix) -> bool
         ensures same_reference { reference_of self.new ≡ reference_of self.old }
         ensures capacity { (buffer_of self.new).capacity ≡ (buffer_of self.old).capacity }
-        ensures fits { IsTrue result ↔ (length (packed_message (with_prefix (packed_so_far self.old) prefix)) ≤ MAX_MESSAGE) }
+        ensures fits { let grown = packed_message (with_prefix (packed_so_far self.old) prefix) in
+            IsTrue result ↔ (length grown ≤ MAX_MESSAGE) }
         ensures after { MatchBool result
             (packed_so_far self.new ≡ with_prefix (packed_so_far self.old) prefix)
             (packed_so_far self.new ≡ packed_so_far self.old) }

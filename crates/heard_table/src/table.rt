@@ -70,7 +70,8 @@ fn first_of(sections: &Sections) -> Option<(&Prefix, &Section)>
 
 // The first entry after a prefix.
 fn first_after(sections: &Sections, prefix: Prefix) -> Option<(&Prefix, &Section)>
-    ensures entry { option_map (λ e. (e.0.now, e.1.now)) result ≡ entry_after prefix_cmp sections.now.entries (Some prefix) }
+    ensures entry { option_map (λ e. (e.0.now, e.1.now)) result
+        ≡ entry_after prefix_cmp sections.now.entries (Some prefix) }
     ensures rising { IsRising prefix_cmp sections.now.entries }
 {
     sections

@@ -43,7 +43,7 @@ lines_of [] = []
 lines_of (Err at ∷ ms) = []
 lines_of (Ok m ∷ ms) = judge_line m ++ lines_of ms
 
-lines_of_walk : (at : ℕ) (items : List (List ℕ)) (rest : List ℕ) → lines_of (walk found_message (λ i. i) at items rest) ≡ flat_map judge_line (map (λ m. found_message m.0 m.1) (placed at items))
+lines_of_walk : (at : ℕ) (items : List (List ℕ)) (rest : List ℕ) → lines_of (walk found_message (λ i. i) at items rest) ≡ flat_map judge_line (map (λ m. found_message m.0 m.1) (with_offsets at items))
 lines_of_walk at [] [] = refl
 lines_of_walk at [] (b ∷ rest) = refl
 lines_of_walk at (m ∷ items) rest = ap (λ l. judge_line (found_message at m) ++ l) (lines_of_walk (at + length m) items rest)

@@ -92,7 +92,7 @@ heard_answer octets = elim (heard octets) [ Ok table ↦ answered Done (table_li
 
 -- the messages of a stream, each with its place
 abbrev pub messages_of : List ℕ → List FoundMessage
-messages_of s = map (λ m. found_message m.0 m.1) (placed 0 (split s).items)
+messages_of s = map (λ m. found_message m.0 m.1) (with_offsets 0 (split s).items)
 
 -- the place of what is left of a stream behind its messages, if anything is
 abbrev pub place_of_rest : List ℕ → Option ℕ
