@@ -1,10 +1,10 @@
 -- What is kept when the first message is removed.
 use Rattle.std.proofs.Common.{◌≡◌, sym, ap, ◌∙◌, ℕ, ◌+◌, ◌-◌, ◌≤◌, List, length, take, drop, Some, arith}
-use Rattle.std.proofs.lemmas.List.{length-drop, drop-drop, drop-take, length-take-le}
+use Rattle.std.proofs.lemmas.List.{length-drop, drop-drop, drop-take}
 use Rattle.std.specs.Prelude.{slice_range}
 use Rattle.xb_wire.specs.Messages.{message_size, message_body}
-use Rattle.xb_wire.proofs.MessageLemmas.{message_size_is_size}
-use Rattle.xb_wire.proofs.MessageLemmas.{HasMessageLength-size}
+use Rattle.xb_words.proofs.ListLemmas.{length-slice_range}
+use Rattle.xb_wire.proofs.MessageLemmas.{message_size_is_size, HasMessageLength-size}
 use Rattle.bgp_frame.specs.Waiting.{Waiting, IsKept}
 
 -- what waits, and the last body
@@ -41,5 +41,9 @@ waiting_next octets start len e =
     ap (λ w. waiting w (slice_range octets (start + 19) (start + len))) (sym (drop-drop len start octets)) ∙ ap (waiting (drop len (drop start octets))) body
 
 -- the length of a message that was removed, by its body
-pub length-removed : (s body : List ℕ) (len : ℕ) → 19 ≤ len → len ≤ length s → body ≡ drop 19 (take len s) → len ≡ 19 + length body
-length-removed s body len long inside e = omega (arith, ap length e, length-drop 19 (take len s), length-take-le len s inside)
+pub length-removed : (octets : List ℕ) (start len : ℕ) → message_size (drop start octets) ≡ Some len → len ≡ 19 + length (slice_range octets (start + 19) (start + len))
+length-removed octets start len e =
+    let bounds = HasMessageLength-size (drop start octets) len e in
+    let size = message_size_is_size (drop start octets) len e in
+    let inside : start + len ≤ length octets = omega (arith, size.0, size.1, length-drop start octets) in
+    omega (arith, bounds.header, length-slice_range octets (start + 19) (start + len) inside)

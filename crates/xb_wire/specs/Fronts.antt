@@ -6,14 +6,14 @@ use Rattle.xb_wire.specs.declared.front.Next.{Next}
 use Rattle.xb_wire.specs.declared.front.Next.TheVariants.{Whole, More, Fault}
 
 -- the octets begin with a whole message of a type and a length
-pub record IsWhole (octets : List ℕ) (kind len : ℕ) : Type 0 where
+pub record IsWholeMessage (octets : List ℕ) (kind len : ℕ) : Type 0 where
   pub has_size : message_size octets ≡ Some len
   pub inside : len ≤ length octets
   pub is_of_kind : message_kind (take len octets) ≡ kind
 
 -- what is at the front: a whole message, a header that fails a check, or neither
 abbrev pub IsNext : List ℕ → Next → Type 0
-IsNext octets (Whole kind len) = IsWhole octets kind len
+IsNext octets (Whole kind len) = IsWholeMessage octets kind len
 IsNext octets More = (message_size octets ≡ None) × (front_fault octets ≡ None)
 IsNext octets (Fault fault) = (message_size octets ≡ None) × (front_fault octets ≡ Some (notification_of fault))
 
