@@ -1,5 +1,5 @@
 -- Messages that are removed one by one are those of the split, however the stream came.
-use Rattle.std.proofs.Common.{◌≡◌, refl, sym, ap, ◌∙◌, ℕ, zero, suc, List, [], ◌∷◌, ◌++◌, length, take, drop, Some, None}
+use Rattle.std.proofs.Common.{◌≡◌, sym, ap, ◌∙◌, ℕ, zero, suc, List, [], ◌∷◌, ◌++◌, length, take, drop, Some, None}
 use Rattle.std.specs.Prelude.{fold}
 use Rattle.std.specs.List.{concat}
 use Rattle.std.proofs.lemmas.List.{append_assoc, append-nil}

@@ -4,7 +4,6 @@ use Rattle.std.specs.Prelude.{slice_range}
 use Rattle.xb_words.specs.Octets.{two_at}
 use Rattle.std.proofs.lemmas.List.Folds.{drop_split}
 use Rattle.xb_words.proofs.ListLemmas.{length-slice_range}
-use Rattle.xb_wire.specs.Messages.{Update}
 use Rattle.bgp_update.specs.Joins.{Joins}
 
 -- the three parts and the two length fields

@@ -1,5 +1,5 @@
 -- What is next in a walk over messages, and over prefixes, and what all steps are together.
-use Rattle.std.proofs.Common.{◌≡◌, refl, ap, ◌∙◌, ℕ, ◌+◌, ◌<◌, Bool, true, List, [], ◌∷◌, length, take, drop, map, Some, None, Ok, Err}
+use Rattle.std.proofs.Common.{◌≡◌, refl, ap, ◌∙◌, ℕ, ◌+◌, ◌<◌, true, List, [], ◌∷◌, length, take, drop, map, Some, None, Ok, Err}
 use Rattle.std.specs.Prelude.{◌==◌}
 use Rattle.std.proofs.Math.Dec.{eqb-suc-zero}
 use Rattle.xb_words.specs.Cut.{walk, walk_from, with_offsets, cut}
