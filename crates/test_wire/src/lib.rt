@@ -23,10 +23,4 @@ pub fn next_open(frames: &mut Frames, want: &OpenWant) -> Option<OpenSeen>
 }
 
 #[cfg(test)]
-mod frame_tests;
-#[cfg(test)]
-mod read_back_tests;
-#[cfg(test)]
-mod session_tests;
-#[cfg(test)]
-mod written_tests;
+mod tests;

@@ -1,0 +1,4 @@
+mod pieces;
+mod read_back;
+mod session;
+mod written;
