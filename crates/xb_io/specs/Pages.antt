@@ -1,6 +1,6 @@
 -- Text on its way to a sink, gathered on a page (this project's own). A sink is known by its two meanings, what it took and
 -- how often it failed, and by its states before and after.
-use Rattle.std.specs.Prelude.{◌≡◌, ℕ, ◌≤◌, List, [], ◌++◌, Option, Result, Ok, Err, OnOk}
+use Rattle.std.specs.Prelude.{◌≡◌, ℕ, ◌≤◌, List, [], ◌++◌, Option, Result, Ok, Err}
 use Rattle.xb_io.specs.Causes.{FaultsRose, TookFront, with_text}
 use Rattle.xb_io.specs.declared.page.Halt.{Halt}
 use Rattle.xb_io.specs.declared.page.Halt.TheVariants.{WriteFault}

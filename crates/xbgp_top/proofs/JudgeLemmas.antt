@@ -5,11 +5,11 @@ use Rattle.std.specs.List.{concat}
 use Rattle.std.proofs.Math.Dec.{eqb-suc-zero}
 use Rattle.xb_words.specs.Cut.{walk, walk_from, with_offsets}
 use Rattle.xb_wire.specs.Messages.{split}
-use Rattle.bgp_update.specs.Walks.{Found, found, messages_from}
+use Rattle.bgp_update.specs.Walks.{FoundMessage, found_message, messages_from}
 use Rattle.xbgp_top.specs.Answers.{judge_line, judge_lines, messages_of, rest_offset}
 
 -- where the walk is refused, if it is
-abbrev pub rest_of : List (Result Found ℕ) → Option ℕ
+abbrev pub rest_of : List (Result FoundMessage ℕ) → Option ℕ
 rest_of [] = None
 rest_of (Err at ∷ ms) = Some at
 rest_of (Ok m ∷ ms) = rest_of ms
@@ -17,7 +17,7 @@ rest_of (Ok m ∷ ms) = rest_of ms
 abbrev ends_at : List ℕ → ℕ → Option ℕ
 ends_at rest end = if length rest == 0 then None else Some end
 
-rest_of_walk : (at : ℕ) (items : List (List ℕ)) (rest : List ℕ) → rest_of (walk found (λ i. i) at items rest) ≡ ends_at rest (at + length (concat items))
+rest_of_walk : (at : ℕ) (items : List (List ℕ)) (rest : List ℕ) → rest_of (walk found_message (λ i. i) at items rest) ≡ ends_at rest (at + length (concat items))
 rest_of_walk at [] [] = refl
 rest_of_walk at [] (b ∷ rest) =
     let here : at ≡ at + 0 = omega arith in
@@ -33,15 +33,15 @@ first_rest s =
     rest_of_walk 0 (split s).items (split s).rest ∙ ap (ends_at (split s).rest) from
 
 -- the lines of the messages that are still to come
-abbrev pub lines_of : List (Result Found ℕ) → List ℕ
+abbrev pub lines_of : List (Result FoundMessage ℕ) → List ℕ
 lines_of [] = []
 lines_of (Err at ∷ ms) = []
 lines_of (Ok m ∷ ms) = judge_line m ++ lines_of ms
 
-lines_of_walk : (at : ℕ) (items : List (List ℕ)) (rest : List ℕ) → lines_of (walk found (λ i. i) at items rest) ≡ flat_map judge_line (map (λ m. found m.0 m.1) (with_offsets at items))
+lines_of_walk : (at : ℕ) (items : List (List ℕ)) (rest : List ℕ) → lines_of (walk found_message (λ i. i) at items rest) ≡ flat_map judge_line (map (λ m. found_message m.0 m.1) (with_offsets at items))
 lines_of_walk at [] [] = refl
 lines_of_walk at [] (b ∷ rest) = refl
-lines_of_walk at (m ∷ items) rest = ap (λ l. judge_line (found at m) ++ l) (lines_of_walk (at + length m) items rest)
+lines_of_walk at (m ∷ items) rest = ap (λ l. judge_line (found_message at m) ++ l) (lines_of_walk (at + length m) items rest)
 
 -- at first all lines are still to come
 pub all_lines : (s : List ℕ) → lines_of (messages_from 0 s) ≡ judge_lines s

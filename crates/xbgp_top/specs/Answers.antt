@@ -11,7 +11,7 @@ use Rattle.xb_wire.specs.declared.numbers.TheConstants.{UPDATE}
 use Rattle.xb_wire.specs.Messages.{split}
 use Rattle.xb_io.specs.Causes.{Files, file_named}
 use Rattle.bgp_update.specs.Heard.{heard}
-use Rattle.bgp_update.specs.Walks.{Found, found}
+use Rattle.bgp_update.specs.Walks.{FoundMessage, found_message}
 use Rattle.bgp_check.specs.Judgement.{judge}
 use Rattle.bpf_mem.specs.Memory.{fresh}
 use Rattle.bpf_insn.specs.Loading.{load_fault}
@@ -102,15 +102,15 @@ abbrev pub heard_outcome : List ℕ → Outcome (List ℕ)
 heard_outcome octets = result_map_both (λ table. table_lines table ++ end_line) BadStream (heard octets)
 
 -- the messages of a stream, each with its offset
-abbrev pub messages_of : List ℕ → List Found
-messages_of s = map (λ m. found m.0 m.1) (with_offsets 0 (split s).items)
+abbrev pub messages_of : List ℕ → List FoundMessage
+messages_of s = map (λ m. found_message m.0 m.1) (with_offsets 0 (split s).items)
 
 -- the offset of what is left of a stream after its messages, if anything is
 abbrev pub rest_offset : List ℕ → Option ℕ
 rest_offset s = if length (split s).rest == 0 then None else Some (length (concat (split s).items))
 
 -- what is said of a message: an UPDATE is clean or gets a NOTIFICATION, another kind is not judged
-abbrev pub verdict : Found → List (List ℕ)
+abbrev pub verdict : FoundMessage → List (List ℕ)
 verdict m =
     if m.kind == UPDATE then
     elim (judge 2 m.body) as (λ o. List (List ℕ)) [
@@ -120,7 +120,7 @@ verdict m =
     else codes "other" ∷ []
 
 -- a message's offset, and what is said of it
-abbrev pub judge_line : Found → List ℕ
+abbrev pub judge_line : FoundMessage → List ℕ
 judge_line m = line (decimal m.at ∷ verdict m)
 
 -- a line for each message
