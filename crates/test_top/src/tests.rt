@@ -39,50 +39,69 @@ fn zeros(alloc: Global, count: usize) -> Result<Vec<u8>, Fail> {
     Ok(vec![in alloc; 0u8; count]?)
 }
 
-// What words answer over a shelf that holds octets as `x` and a manifest as `m`, and what is written; the sink fails at a call, or
-// never at 0.
+// The words of a command line, and the status and the text that they are to give.
+struct Case<'a> {
+    words: &'a [&'a str],
+    status: Status,
+    text: &'a str,
+}
+
+// The words that give Done.
+fn done<'a>(words: &'a [&'a str], text: &'a str) -> Case<'a> {
+    let status = Status::Done;
+    Case {
+        words,
+        status,
+        text,
+    }
+}
+
+// The words that give another status.
+fn refused<'a>(words: &'a [&'a str], status: Status, text: &'a str) -> Case<'a> {
+    Case {
+        words,
+        status,
+        text,
+    }
+}
+
+// A shelf that holds `x` and the manifest `m`.
+fn shelf_of(alloc: Global, x: &[u8], m: &[u8]) -> Result<MemShelf, Fail> {
+    let mut shelf = MemShelf::make(alloc)?;
+    shelf.add("x", x)?;
+    shelf.add("m", m)?;
+    Ok(shelf)
+}
+
+// The status that words give over a shelf, and what a sink takes, which fails at that call, or never at 0.
 fn answer(
     alloc: Global,
     words: &[&str],
-    octets: &[u8],
-    manifest: &[u8],
+    shelf: &mut MemShelf,
     failing: u64,
 ) -> Result<(Status, Vec<u8>), Fail> {
-    let mut shelf = MemShelf::make(alloc)?;
-    shelf.add("x", octets)?;
-    shelf.add("m", manifest)?;
     let mut sink = MemSink::make(alloc, 1000)?;
     sink.fail_at(failing)?;
     let mut owned = Vec::new(alloc);
     for word in words {
         owned.push(String::from_str(alloc, word)?)?;
     }
-    let status = run(alloc, &owned, &mut shelf, &mut sink);
+    let status = run(alloc, &owned, shelf, &mut sink);
     Ok((status, Vec::from_slice(alloc, sink.taken())?))
 }
 
-// Words over `x` and `m` have this status and write this text.
-fn expect_with(
-    rt: &(impl AllocGlobal + Abort),
-    words: &[&str],
-    octets: &[u8],
-    manifest: &[u8],
-    status: Status,
-    text: &str,
-) -> Result<(), Fail> {
-    let (got, written) = answer(rt.alloc(), words, octets, manifest, 0)?;
-    assert_eq!(rt; got, status, "for {text}");
-    assert_eq!(rt; written.as_slice(), text.as_bytes());
-    Ok(())
-}
-
-// The same without a manifest.
+// Each case is as it is to be, over a shelf that holds `x` and the manifest `m`.
 fn expect(
     rt: &(impl AllocGlobal + Abort),
-    words: &[&str],
-    octets: &[u8],
-    status: Status,
-    text: &str,
+    x: &[u8],
+    m: &[u8],
+    cases: &[Case<'_>],
 ) -> Result<(), Fail> {
-    expect_with(rt, words, octets, b"", status, text)
+    let mut shelf = shelf_of(rt.alloc(), x, m)?;
+    for case in cases {
+        let (status, written) = answer(rt.alloc(), case.words, &mut shelf, 0)?;
+        assert_eq!(rt; status, case.status, "for {}", case.text);
+        assert_eq!(rt; written.as_slice(), case.text.as_bytes());
+    }
+    Ok(())
 }

@@ -1,4 +1,4 @@
--- The verdicts that are still to come in a walk over messages, and where the walk is refused.
+-- The verdicts that are still to come in a walk over messages, and the offset at which the walk is refused.
 use Rattle.std.proofs.Common.{◌≡◌, ℕ, ◌+◌, List, [], ◌∷◌, ◌++◌, length, map, flat_map, Option, Some, None, Result, Ok, Err, if◌then◌else◌, refl, sym, ◌∙◌, ap, subst, arith, length-append}
 use Rattle.std.specs.Prelude.{◌==◌}
 use Rattle.std.specs.List.{concat}
@@ -8,7 +8,7 @@ use Rattle.xb_wire.specs.Messages.{split}
 use Rattle.bgp_update.specs.Walks.{FoundMessage, found_message, messages_from}
 use Rattle.xbgp_top.specs.Answers.{judge_line, judge_lines, messages_of, rest_offset}
 
--- where the walk is refused, if it is
+-- the offset at which the walk is refused, if it is
 abbrev pub rest_of : List (Result FoundMessage ℕ) → Option ℕ
 rest_of [] = None
 rest_of (Err at ∷ ms) = Some at

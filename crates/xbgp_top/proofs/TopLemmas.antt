@@ -86,17 +86,17 @@ module _ {S K : Type 0} (held : S → Option Files) (reads : S → ℕ) (took : 
             let same : status ≡ (ended got).status = elim (w.only) as (λ _. status ≡ (ended got).status) [ inl s ↦ s | inr failed ↦ elim failed as (λ _. status ≡ (ended got).status) [ inl f ↦ absurd (written f) | inr m ↦ absurd (memory m) ] ] in
             elim (o.told files e) as (λ _. IsAnswered (ended (want files)) (took sink_old) (took sink_new) status) [
               | inl gives ↦ elim (as_wanted (want files) got gives) as (λ _. IsAnswered (ended (want files)) (took sink_old) (took sink_new) status) [
-                  | inl none ↦ absurd (memory (same ∙ ap (λ (x : Outcome (List ℕ)). (ended x).status) none))
-                  | inr is ↦ subst (λ (x : Outcome (List ℕ)). IsAnswered (ended x) (took sink_old) (took sink_new) status) (sym is) (same, λ _. w.whole written memory)
-                ]
+                | inl none ↦ absurd (memory (same ∙ ap (λ (x : Outcome (List ℕ)). (ended x).status) none))
+                | inr is ↦ subst (λ (x : Outcome (List ℕ)). IsAnswered (ended x) (took sink_old) (took sink_new) status) (sym is) (same, λ _. w.whole written memory)
+              ]
               | inr read ↦ absurd (no_read read.1)
             ];
         front = λ files e.
             elim (o.told files e) as (λ _. TookFront (took sink_old) (took sink_new) (ended (want files)).text) [
               | inl gives ↦ elim (as_wanted (want files) got gives) as (λ _. TookFront (took sink_old) (took sink_new) (ended (want files)).text) [
-                  | inl none ↦ nothing (ended (want files)).text (subst (λ (x : Outcome (List ℕ)). TookFront (took sink_old) (took sink_new) (ended x).text) none w.front)
-                  | inr is ↦ subst (λ (x : Outcome (List ℕ)). TookFront (took sink_old) (took sink_new) (ended x).text) (sym is) w.front
-                ]
+                | inl none ↦ nothing (ended (want files)).text (subst (λ (x : Outcome (List ℕ)). TookFront (took sink_old) (took sink_new) (ended x).text) none w.front)
+                | inr is ↦ subst (λ (x : Outcome (List ℕ)). TookFront (took sink_old) (took sink_new) (ended x).text) (sym is) w.front
+              ]
               | inr read ↦ nothing (ended (want files)).text (subst (λ (x : Outcome (List ℕ)). TookFront (took sink_old) (took sink_new) (ended x).text) read.0 w.front)
             ];
         read_cause = λ fault.
@@ -133,9 +133,9 @@ module _ {S K : Type 0} (held : S → Option Files) (reads : S → ℕ) (took : 
       read_fault got_is (Some files) e =
           elim (o.told files e) as (λ _. FaultsRose (reads shelf_old) (reads shelf_new) ⊎ ((ended (want files)).status ≡ ReadFault)) [
             | inl gives ↦ elim (as_wanted (want files) got gives) as (λ _. FaultsRose (reads shelf_old) (reads shelf_new) ⊎ ((ended (want files)).status ≡ ReadFault)) [
-                | inl none ↦ absurd (let f : Err {T = List ℕ} OutOfMemory ≡ Err ReadFault = sym none ∙ got_is in cc f)
-                | inr is ↦ inr (ap (λ (x : Outcome (List ℕ)). (ended x).status) (is ∙ got_is))
-              ]
+              | inl none ↦ absurd (let f : Err {T = List ℕ} OutOfMemory ≡ Err ReadFault = sym none ∙ got_is in cc f)
+              | inr is ↦ inr (ap (λ (x : Outcome (List ℕ)). (ended x).status) (is ∙ got_is))
+            ]
             | inr read ↦ inl read.1
           ]
 
@@ -163,16 +163,24 @@ module _ {S K : Type 0} (held : S → Option Files) (reads : S → ℕ) (took : 
   explains_check config manifest got o w unread = explains_writes (check_outcome config manifest) got o w unread
 
   -- the words' command decides on the answer
-  pub explains_command : (words : List (List ℕ)) (command : Command) → command_of words ≡ Some command
-      → Explains held reads took writes shelf_old shelf_new sink_old sink_new (command_answer command) status
-      → Explains held reads took writes shelf_old shelf_new sink_old sink_new (answer words) status
+  pub explains_command : (words : List (List ℕ)) (command : Command) → Explains held reads took writes shelf_old shelf_new sink_old sink_new (command_answer command) status
+      → command_of words ≡ Some command → Explains held reads took writes shelf_old shelf_new sink_old sink_new (answer words) status
   unfolding answer
-  explains_command words command is e =
+  explains_command words command e is =
       let by : Option Command → Files → Answer = λ o files. elim o as (λ x. Answer) [ None ↦ ended (Err Usage) | Some c ↦ command_answer c files ] in
       subst (λ (o : Option Command). Explains held reads took writes shelf_old shelf_new sink_old sink_new (by o) status) (sym is) e
 
--- words that are no command answer Usage
+-- the answer to words that are no command
 pub answer-none : (words : List (List ℕ)) (files : Files) → command_of words ≡ None → answer words files ≡ ended (Err Usage)
 unfolding answer
 answer-none words files is =
     ap (λ (o : Option Command). elim o as (λ x. Answer) [ None ↦ ended (Err Usage) | Some c ↦ command_answer c files ]) is
+
+-- the line of Usage was written
+pub usage_written : {K : Type 0} (took : K → Option (List ℕ)) (faults : K → ℕ) (old new : K) (status : Status) → Writes (ended (Err Usage)) took faults old new status
+    → ¬ FaultsRose (faults old) (faults new) → status ≢ OutOfMemory → IsAnswered (ended (Err Usage)) (took old) (took new) status
+usage_written took faults old new status w no_write memory =
+    let written : status ≢ WriteFault = λ fault. elim (w.fault fault) as (λ _. ⊥) [ inl other ↦ cc other | inr rose ↦ no_write rose ] in (
+      elim (w.only) as (λ _. status ≡ Usage) [ inl s ↦ s | inr failed ↦ elim failed as (λ _. status ≡ Usage) [ inl f ↦ absurd (written f) | inr m ↦ absurd (memory m) ] ],
+      λ _. w.whole written memory,
+    )

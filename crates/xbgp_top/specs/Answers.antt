@@ -1,5 +1,5 @@
--- What the program answers to the words of a command line, from the files that are held (this project's own): a status
--- and a text. A command comes to an outcome: the text of Done, or the status that ends it, which has a text of its own.
+-- The answer to the words of a command line, from the files that are held (this project's own): a status and a text. A
+-- command comes to an outcome: the text of Done, or the status that ends it, which has a text of its own.
 use Rattle.std.specs.Prelude.{ℕ, Bool, false, List, [], ◌∷◌, ◌++◌, length, map, flat_map, ◌==◌, Option, Some, None, Result, Ok, Err, codes, decimal, nat_lt, if◌then◌else◌}
 use Rattle.std.specs.List.{concat}
 use Rattle.std.specs.Result.{result_map_both}
@@ -33,7 +33,7 @@ use Rattle.xbgp_top.specs.declared.status.Status.TheVariants.{Done, Usage, ReadF
 use Rattle.xbgp_top.specs.Commands.{Command, on_file, check, command_of}
 use Rattle.xbgp_top.specs.Words.{file_word, kind_word, load_word, part_word}
 
--- what the program answers
+-- a status and the text that is written
 pub record Answer : Type 0 where
   pub status : Status
   pub text : List ℕ
@@ -50,14 +50,15 @@ fault_line words = line (codes "fault" ∷ words)
 abbrev pub end_line : List ℕ
 end_line = line (codes "end" ∷ [])
 
--- the line of a status that says what is wrong with the words or an input; a fault of shelf, sink or memory has none
+-- the line of a status that says what is wrong with the words or an input; another status has no line
 abbrev pub fault_text : Status → List ℕ
 fault_text Usage = fault_line (codes "usage" ∷ [])
 fault_text (TooLong file) = fault_line (codes "long" ∷ file_word file ∷ [])
 fault_text (BadConfig fault) =
     fault_line (codes "config" ∷ kind_word fault.kind ∷ part_word fault.part ∷ decimal fault.index ∷ [])
 fault_text (BadManifest fault) =
-    fault_line (codes "manifest" ∷ kind_word fault.kind ∷ part_word fault.part ∷ decimal fault.index ∷ decimal fault.slot ∷ [])
+    fault_line (codes "manifest" ∷ kind_word fault.kind ∷ part_word fault.part ∷ decimal fault.index
+    ∷ decimal fault.slot ∷ [])
 fault_text (BadStream at) = fault_line (codes "stream" ∷ decimal at ∷ [])
 fault_text (BadCode fault) = fault_line (codes "code" ∷ load_word fault.kind ∷ decimal fault.slot ∷ [])
 fault_text Done = []
@@ -175,7 +176,8 @@ count_line word n = line (word ∷ decimal n ∷ [])
 abbrev pub counts : Config → Manifest → List ℕ
 counts config manifest =
     count_line (codes "peers") (length config.peers) ++ count_line (codes "networks") (length config.networks)
-    ++ count_line (codes "maps") (length manifest.maps) ++ count_line (codes "programs") (length manifest.programs) ++ end_line
+    ++ count_line (codes "maps") (length manifest.maps) ++ count_line (codes "programs") (length manifest.programs)
+    ++ end_line
 
 -- a configuration that is read and judged
 abbrev pub config_input : List ℕ → Files → Outcome Config
@@ -201,6 +203,6 @@ unfoldable pub command_answer : Command → Files → Answer
 command_answer (on_file job name) files = ended (file_outcome job name files)
 command_answer (check config manifest) files = ended (check_outcome config manifest files)
 
--- what words answer, from the files that are held; words that are no command are bad usage
+-- the answer to words, from the files that are held; words that are no command are bad usage
 unfoldable pub answer : List (List ℕ) → Files → Answer
 answer words files = elim (command_of words) [ None ↦ ended (Err Usage) | Some command ↦ command_answer command files ]

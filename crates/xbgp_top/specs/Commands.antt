@@ -21,5 +21,6 @@ job_of word =
 -- the command that words are
 abbrev pub command_of : List (List ℕ) → Option Command
 command_of (word ∷ name ∷ []) = option_map (λ job. on_file job name) (job_of word)
-command_of (word ∷ config ∷ manifest ∷ []) = if bytes_eq word (codes "check") then Some (check config manifest) else None
+command_of (word ∷ config ∷ manifest ∷ []) =
+    if bytes_eq word (codes "check") then Some (check config manifest) else None
 command_of words = None

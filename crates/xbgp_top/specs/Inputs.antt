@@ -16,8 +16,10 @@ Gives want (Ok x) = want ≡ Ok x
 Gives want (Err status) = (status ≡ OutOfMemory) ⊎ (want ≡ Err status)
 
 -- a step over a shelf gave what its files say, or had no memory, or a read failed; it left the files as they were
-pub record Obtains {S A : Type 0} (held : S → Option Files) (faults : S → ℕ) (old new : S) (want : Files → Outcome A) (got : Outcome A) : Type 0 where
-  pub told : (files : Files) → held old ≡ Some files → Gives (want files) got ⊎ ((got ≡ Err ReadFault) × FaultsRose (faults old) (faults new))
+pub record Obtains {S A : Type 0} (held : S → Option Files) (faults : S → ℕ) (old new : S)
+    (want : Files → Outcome A) (got : Outcome A) : Type 0 where
+  pub told : (files : Files) → held old ≡ Some files
+      → Gives (want files) got ⊎ ((got ≡ Err ReadFault) × FaultsRose (faults old) (faults new))
   -- a shelf that doesn't tell has no name that is missing
   pub cause : held old ≡ None → got ≡ Err ReadFault → FaultsRose (faults old) (faults new)
   pub quiet : got ≢ Err ReadFault → faults new ≡ faults old
@@ -30,15 +32,18 @@ pub record Obtains {S A : Type 0} (held : S → Option Files) (faults : S → �
 -- octets that were read are a front of the file, if the shelf tells (for the loop of read_pieces)
 abbrev pub IsFront : Option Files → List ℕ → List ℕ → Type 0
 IsFront None name front = Unit {0}
-IsFront (Some files) name front = MatchOption (file_named files name) (front ≡ []) (λ octets. front ≡ take (length front) octets)
+IsFront (Some files) name front =
+    MatchOption (file_named files name) (front ≡ []) (λ octets. front ≡ take (length front) octets)
 
 -- all octets of the file, which are within the limit, if the shelf tells
 abbrev pub IsWhole : Option Files → List ℕ → List ℕ → Type 0
-IsWhole held name octets = MatchOption held (Unit {0}) (λ files. (file_named files name ≡ Some octets) × (length octets ≤ INPUT_LIMIT))
+IsWhole held name octets =
+    MatchOption held (Unit {0}) (λ files. (file_named files name ≡ Some octets) × (length octets ≤ INPUT_LIMIT))
 
 -- the file is longer than the limit, if the shelf tells
 abbrev pub IsLong : Option Files → List ℕ → Type 0
-IsLong held name = MatchOption held (Unit {0}) (λ files. MatchOption (file_named files name) ⊥ (λ octets. INPUT_LIMIT < length octets))
+IsLong held name =
+    MatchOption held (Unit {0}) (λ files. MatchOption (file_named files name) ⊥ (λ octets. INPUT_LIMIT < length octets))
 
 -- an input that was not read has its cause; without a fault the count of faults stays
 abbrev pub IsUnread : Option Files → List ℕ → ℕ → ℕ → Unread → Type 0

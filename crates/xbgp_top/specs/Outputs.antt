@@ -8,13 +8,14 @@ use Rattle.xbgp_top.specs.declared.status.Status.{Status}
 use Rattle.xbgp_top.specs.declared.status.Status.TheVariants.{WriteFault, OutOfMemory}
 
 -- an answer was to be written, and that ended with a status
-pub record Writes {K : Type 0} (answer : Answer) (took : K → Option (List ℕ)) (faults : K → ℕ) (old new : K) (status : Status) : Type 0 where
+pub record Writes {K : Type 0} (answer : Answer) (took : K → Option (List ℕ)) (faults : K → ℕ) (old new : K)
+    (status : Status) : Type 0 where
   -- the answer's status, a fault of the sink, or want of memory
   pub only : (status ≡ answer.status) ⊎ ((status ≡ WriteFault) ⊎ (status ≡ OutOfMemory))
   -- the whole text was taken if the status is the answer's
-  pub whole : status ≢ WriteFault → status ≢ OutOfMemory → took new ≡ and_then (took old) answer.text
+  pub whole : status ≢ WriteFault → status ≢ OutOfMemory → took new ≡ with_text (took old) answer.text
   pub front : TookFront (took old) (took new) answer.text
-  pub fault : status ≡ WriteFault → (answer.status ≡ WriteFault) ⊎ Rose (faults old) (faults new)
+  pub fault : status ≡ WriteFault → (answer.status ≡ WriteFault) ⊎ FaultsRose (faults old) (faults new)
   pub quiet : status ≢ WriteFault → status ≢ OutOfMemory → faults new ≡ faults old
   pub later : faults old ≤ faults new
 

@@ -2,8 +2,6 @@
 use Rattle.std.specs.Prelude.{ℕ, List, Result, Ok, Err, Vec}
 use Rattle.std.specs.declared.alloc.Global.{Global}
 use Rattle.xb_values.specs.Buffers.{Buffer}
-use Rattle.bgp_update.specs.declared.messages.Msg.{Msg}
-use Rattle.bgp_update.specs.Walks.{FoundMessage}
 use Rattle.xbgp_top.specs.declared.command.Command as lent
 use Rattle.xbgp_top.specs.declared.command.Command.TheVariants.{File, Check}
 use Rattle.xbgp_top.specs.declared.status.Status.{Status}
@@ -23,7 +21,3 @@ octets_view (Err status) = Err status
 abbrev pub text_view : Result Buffer Status → Result (List ℕ) Status
 text_view (Ok text) = Ok text.octets
 text_view (Err status) = Err status
-
--- a message without the address of its body
-abbrev pub message_view : Msg → FoundMessage
-message_view m = record { at = m.at; kind = m.kind; body = m.body.now }

@@ -27,7 +27,7 @@ fn config_named<S: Shelf>(alloc: Global, name: &str, shelf: &mut S) -> Result<Co
     Ok(read_config(alloc, &text)?)
 }
 
-// Whether a name stands for no manifest.
+// Whether a name means that there is no manifest.
 fn is_none(name: &str) -> bool
     ensures { result ≡ bytes_eq name.now (codes "-") }
 {

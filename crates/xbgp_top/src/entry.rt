@@ -36,10 +36,8 @@ fn ask_file<S: Shelf, K: Sink>(
     shelf: &mut S,
     sink: &mut K,
 ) -> Status
-    ensures explains {
-        let told = command_answer (on_file job name.now) in
-        Explains S.held S.faults K.took K.faults shelf.old shelf.new sink.old sink.new told result
-    }
+    ensures explains { let told = command_answer (on_file job name.now) in
+        Explains S.held S.faults K.took K.faults shelf.old shelf.new sink.old sink.new told result }
     ensures command { result ≢ Status.Usage }
 {
     match read_input(alloc, File::Input, name, shelf) {
@@ -56,10 +54,8 @@ fn check_files<S: Shelf, K: Sink>(
     shelf: &mut S,
     sink: &mut K,
 ) -> Status
-    ensures explains {
-        let told = command_answer (check config.now manifest.now) in
-        Explains S.held S.faults K.took K.faults shelf.old shelf.new sink.old sink.new told result
-    }
+    ensures explains { let told = command_answer (check config.now manifest.now) in
+        Explains S.held S.faults K.took K.faults shelf.old shelf.new sink.old sink.new told result }
     ensures command { result ≢ Status.Usage }
 {
     let text = check(alloc, config, manifest, shelf);
@@ -75,35 +71,28 @@ pub fn run<S: Shelf, K: Sink>(
     sink: &mut K,
 ) -> Status
     // If the shelf tells and no count of faults rose: the answer's status with its whole text, or want of memory.
-    ensures exact {
-        let told = answer (map string_bytes words.now) in
+    ensures exact { let told = answer (map string_bytes words.now) in
         (files : Files) → S.held shelf.old ≡ Some files
         → ¬ FaultsRose (S.faults shelf.old) (S.faults shelf.new) → ¬ FaultsRose (K.faults sink.old) (K.faults sink.new)
-        → result ≢ Status.OutOfMemory → IsAnswered (told files) (K.took sink.old) (K.took sink.new) result
-    }
+        → result ≢ Status.OutOfMemory → IsAnswered (told files) (K.took sink.old) (K.took sink.new) result }
 
     // In every case a front of the answer's text was taken.
-    ensures front {
-        let told = answer (map string_bytes words.now) in
+    ensures front { let told = answer (map string_bytes words.now) in
         (files : Files) → S.held shelf.old ≡ Some files
-        → TookFront (K.took sink.old) (K.took sink.new) (told files).text
-    }
+        → TookFront (K.took sink.old) (K.took sink.new) (told files).text }
 
     // The words alone decide on Usage, and its line is all that is written then, whatever the shelf tells.
     ensures usage { IsUsage (command_of (map string_bytes words.now)) (K.took sink.old) (K.took sink.new) result }
 
     // No fault is returned without its cause, and no other answer if a count rose.
-    ensures read_cause {
-        let told = answer (map string_bytes words.now) in
-        result ≡ Status.ReadFault → FaultsRose (S.faults shelf.old) (S.faults shelf.new) ⊎ SaysMissing (S.held shelf.old) told
-    }
+    ensures read_cause { let told = answer (map string_bytes words.now) in
+        result ≡ Status.ReadFault
+        → FaultsRose (S.faults shelf.old) (S.faults shelf.new) ⊎ SaysMissing (S.held shelf.old) told }
     ensures write_cause { result ≡ Status.WriteFault → FaultsRose (K.faults sink.old) (K.faults sink.new) }
-    ensures quiet_shelf {
-        result ≢ Status.ReadFault → result ≢ Status.OutOfMemory → S.faults shelf.new ≡ S.faults shelf.old
-    }
-    ensures quiet_sink {
-        result ≢ Status.WriteFault → result ≢ Status.OutOfMemory → K.faults sink.new ≡ K.faults sink.old
-    }
+    ensures quiet_shelf { result ≢ Status.ReadFault → result ≢ Status.OutOfMemory
+        → S.faults shelf.new ≡ S.faults shelf.old }
+    ensures quiet_sink { result ≢ Status.WriteFault → result ≢ Status.OutOfMemory
+        → K.faults sink.new ≡ K.faults sink.old }
     ensures later_shelf { S.faults shelf.old ≤ S.faults shelf.new }
     ensures later_sink { K.faults sink.old ≤ K.faults sink.new }
 {

@@ -24,7 +24,11 @@ fn write_entry(
     ensures { OnOk result (line.new.octets ≡ heard_line (prefix, section.now)) }
 {
     let digits = section.len().checked_mul(2).ok_or(AllocError)?;
-    begin_line(alloc, line, digits.checked_add(AROUND_SECTION).ok_or(AllocError)?)?;
+    begin_line(
+        alloc,
+        line,
+        digits.checked_add(AROUND_SECTION).ok_or(AllocError)?,
+    )?;
     append_prefix(line, prefix);
     line.append(b" ");
     append_hex(line, section);

@@ -48,10 +48,8 @@ fn read_pieces<S: Shelf>(
     ensures whole { IfOk result (λ octets. IsWhole (S.held shelf.old) name.now octets.items) }
     ensures same { OnOk result (S.faults shelf.new ≡ S.faults shelf.old) }
     ensures held { S.held shelf.new ≡ S.held shelf.old }
-    ensures unread {
-        let before = S.faults shelf.old in
-        IfErr result (λ why. IsUnread (S.held shelf.old) name.now before (S.faults shelf.new) why)
-    }
+    ensures unread { let before = S.faults shelf.old in
+        IfErr result (λ why. IsUnread (S.held shelf.old) name.now before (S.faults shelf.new) why) }
 {
     let mut input = Vec::new(alloc);
     'pieces: while input.len() <= INPUT_LIMIT {

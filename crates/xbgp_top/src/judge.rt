@@ -3,8 +3,8 @@ ghost use Rattle.std.specs.Prelude.{◌≡◌, ◌≤◌, ◌++◌, ◌∷◌, [
 ghost use Rattle.xb_values.specs.Texts.{hex_text, line as line_of};
 ghost use Rattle.xbgp_top.specs.Answers.{end_line, ended, judge_line, judge_lines, judge_outcome, rest_offset};
 ghost use Rattle.xb_io.specs.Pages.{Gathers, Puts};
+ghost use Rattle.bgp_update.specs.Views.{message_view};
 ghost use Rattle.xbgp_top.specs.Outputs.{Writes};
-ghost use Rattle.xbgp_top.specs.Views.{message_view};
 
 use crate::Status;
 use crate::output::{END_LINE, LINE, PAGE, end_status, refuse};
@@ -59,14 +59,16 @@ fn write_notice(
     at: usize,
     notice: &Notice<'_>,
 ) -> Result<(), AllocError>
-    ensures {
-        let digits = hex_text notice.now.extra.now in
+    ensures { let digits = hex_text notice.now.extra.now in
         let words = codes "notice" ∷ decimal notice.now.code ∷ decimal notice.now.subcode ∷ digits ∷ [] in
-        OnOk result (line.new.octets ≡ line_of (decimal at ∷ words))
-    }
+        OnOk result (line.new.octets ≡ line_of (decimal at ∷ words)) }
 {
     let digits = notice.extra.len().checked_mul(2).ok_or(AllocError)?;
-    begin_line(alloc, line, digits.checked_add(AROUND_DATA).ok_or(AllocError)?)?;
+    begin_line(
+        alloc,
+        line,
+        digits.checked_add(AROUND_DATA).ok_or(AllocError)?,
+    )?;
     append_decimal(line, at as u64);
     line.append(b" notice ");
     append_decimal(line, u64::from(notice.code));
@@ -98,7 +100,8 @@ fn gather_verdicts<K: Sink>(
     page: &mut Buf,
     sink: &mut K,
 ) -> Result<(), Halt>
-    ensures { Gathers K.took K.faults sink.old sink.new page.old.octets page.new.octets (judge_lines octets.now) result }
+    ensures { let lines = judge_lines octets.now in
+        Gathers K.took K.faults sink.old sink.new page.old.octets page.new.octets lines result }
 {
     let mut line = Buf::make(alloc, LINE)?;
     let mut messages = Messages::new(octets);

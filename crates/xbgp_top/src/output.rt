@@ -53,10 +53,8 @@ pub(crate) fn write_all<K: Sink>(sink: &mut K, text: &[u8], status: Status) -> S
 // Appends what is wrong, in which part and at which entry.
 fn append_entry(line: &mut Buf, kind: BadKind, part: Part, index: u32)
     requires { length line.old.octets + 40 ≤ line.old.capacity }
-    ensures entry {
-        let words = spaced (kind_word kind ∷ part_word part ∷ decimal index ∷ []) in
-        line.new ≡ record line.old { octets = line.old.octets ++ words }
-    }
+    ensures entry { let words = spaced (kind_word kind ∷ part_word part ∷ decimal index ∷ []) in
+        line.new ≡ record line.old { octets = line.old.octets ++ words } }
     ensures grown { length line.new.octets ≤ length line.old.octets + 40 }
 {
     line.append(kind_word(kind));
@@ -66,7 +64,7 @@ fn append_entry(line: &mut Buf, kind: BadKind, part: Part, index: u32)
     append_decimal(line, u64::from(index));
 }
 
-// The line of a status, or nothing for a status that has none.
+// The line of a status, or nothing for a status without a line.
 fn fault_text(alloc: Global, status: Status) -> Result<Buf, AllocError>
     ensures { IfOk result (λ line. line.octets ≡ fault_text status) }
 {
@@ -124,13 +122,9 @@ pub(crate) fn refuse<K: Sink>(alloc: Global, status: Status, sink: &mut K) -> St
 }
 
 /// Writes a text, or the line of the status that ended a command before it had one.
-pub(crate) fn print_text<K: Sink>(
-    alloc: Global,
-    text: Result<Buf, Status>,
-    sink: &mut K,
-) -> Status
+pub(crate) fn print_text<K: Sink>(alloc: Global, text: Result<Buf, Status>, sink: &mut K) -> Status
     ensures writes { Writes (ended (text_view text)) K.took K.faults sink.old sink.new result }
-    ensures read { text ≡ Err Status.ReadFault → result ≡ Status.ReadFault }
+    ensures read { text_view text ≡ Err Status.ReadFault → result ≡ Status.ReadFault }
 {
     match text {
         Ok(text) => write_all(sink, text.as_slice(), Status::Done),

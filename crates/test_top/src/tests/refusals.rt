@@ -1,4 +1,4 @@
-use super::{answer, expect, update, zeros};
+use super::{answer, expect, refused, shelf_of, update, zeros};
 use bpf_insn::{LoadFault, LoadKind};
 use std::test::Fail;
 use xb_domain::{BadKind, Part};
@@ -6,18 +6,21 @@ use xbgp_config::ConfigFault;
 use xbgp_manifest::ManifestFault;
 use xbgp_top::{File, Status};
 
+const USAGE: &str = "fault usage\n";
+
 #[test]
 fn words_that_are_no_command_are_refused(rt: HostRuntime) -> Result<(), Fail> {
-    expect(&rt, &[], b"", Status::Usage, "fault usage\n")?;
-    expect(&rt, &["heard"], b"", Status::Usage, "fault usage\n")?;
-    expect(&rt, &["hear", "x"], b"", Status::Usage, "fault usage\n")?;
-    expect(&rt, &["check", "x"], b"", Status::Usage, "fault usage\n")?;
     expect(
         &rt,
-        &["judge", "x", "x"],
         b"",
-        Status::Usage,
-        "fault usage\n",
+        b"",
+        &[
+            refused(&[], Status::Usage, USAGE),
+            refused(&["heard"], Status::Usage, USAGE),
+            refused(&["hear", "x"], Status::Usage, USAGE),
+            refused(&["check", "x"], Status::Usage, USAGE),
+            refused(&["judge", "x", "x"], Status::Usage, USAGE),
+        ],
     )
 }
 
@@ -26,33 +29,23 @@ fn inputs_are_refused(rt: HostRuntime) -> Result<(), Fail> {
     let alloc = rt.alloc();
     let mut short = update(alloc, &[8, 10])?;
     let _ = short.pop();
-    expect(
-        &rt,
-        &["heard", "x"],
-        &short,
-        Status::BadStream(0),
-        "fault stream 0\n",
-    )?;
-    expect(&rt, &["heard", "y"], b"", Status::ReadFault, "")?;
-    expect(&rt, &["check", "y", "-"], b"", Status::ReadFault, "")?;
-    let long = zeros(alloc, 1_048_577)?;
+    let stream = refused(&["heard", "x"], Status::BadStream(0), "fault stream 0\n");
+    let absent = refused(&["heard", "y"], Status::ReadFault, "");
+    let no_config = refused(&["check", "y", "-"], Status::ReadFault, "");
+    expect(&rt, &short, b"", &[stream, absent, no_config])?;
     let input = Status::TooLong(File::Input);
-    expect(&rt, &["heard", "x"], &long, input, "fault long input\n")?;
     let config = Status::TooLong(File::Config);
-    expect(
-        &rt,
-        &["check", "x", "-"],
-        &long,
-        config,
-        "fault long config\n",
-    )
+    let long_input = refused(&["heard", "x"], input, "fault long input\n");
+    let long_config = refused(&["check", "x", "-"], config, "fault long config\n");
+    let long = zeros(alloc, 1_048_577)?;
+    expect(&rt, &long, b"", &[long_input, long_config])
 }
 
 #[test]
 fn a_sink_that_fails_is_told(rt: HostRuntime) -> Result<(), Fail> {
     let alloc = rt.alloc();
-    let octets = update(alloc, &[8, 10])?;
-    let (status, written) = answer(alloc, &["heard", "x"], &octets, b"", 1)?;
+    let mut shelf = shelf_of(alloc, &update(alloc, &[8, 10])?, b"")?;
+    let (status, written) = answer(alloc, &["heard", "x"], &mut shelf, 1)?;
     assert_eq!(rt; status, Status::WriteFault);
     assert!(rt; written.is_empty());
     Ok(())
@@ -61,31 +54,29 @@ fn a_sink_that_fails_is_told(rt: HostRuntime) -> Result<(), Fail> {
 #[test]
 fn statuses_have_their_numbers(rt: HostRuntime) -> Result<(), Fail> {
     let (kind, part, index, slot) = (BadKind::Missing, Part::Top, 0, 0);
-    assert_eq!(rt; Status::Done.code(), 0);
-    assert_eq!(rt; Status::Usage.code(), 2);
-    assert_eq!(rt; Status::ReadFault.code(), 3);
-    assert_eq!(rt; Status::WriteFault.code(), 4);
-    assert_eq!(rt;
-        Status::BadConfig(ConfigFault { kind, part, index }).code(),
-        5
-    );
-    assert_eq!(rt;
-        Status::BadManifest(ManifestFault {
-            kind,
-            part,
-            index,
-            slot
-        })
-        .code(),
-        6
-    );
-    assert_eq!(rt; Status::OutOfMemory.code(), 8);
-    assert_eq!(rt; Status::TooLong(File::Input).code(), 9);
-    assert_eq!(rt; Status::BadStream(0).code(), 10);
-    let fault = LoadFault {
+    let bad_manifest = Status::BadManifest(ManifestFault {
+        kind,
+        part,
+        index,
+        slot,
+    });
+    let bad_code = Status::BadCode(LoadFault {
         kind: LoadKind::Length,
         slot,
-    };
-    assert_eq!(rt; Status::BadCode(fault).code(), 11);
+    });
+    for (status, code) in [
+        (Status::Done, 0),
+        (Status::Usage, 2),
+        (Status::ReadFault, 3),
+        (Status::WriteFault, 4),
+        (Status::BadConfig(ConfigFault { kind, part, index }), 5),
+        (bad_manifest, 6),
+        (Status::OutOfMemory, 8),
+        (Status::TooLong(File::Input), 9),
+        (Status::BadStream(0), 10),
+        (bad_code, 11),
+    ] {
+        assert_eq!(rt; status.code(), code);
+    }
     Ok(())
 }

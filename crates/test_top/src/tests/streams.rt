@@ -1,35 +1,29 @@
-use super::{ROUTE_TEXT, expect, message, update, zeros};
+use super::{ROUTE_TEXT, done, expect, message, refused, update, zeros};
 use std::alloc::Global;
 use std::test::Fail;
 use xbgp_top::Status;
+
+const HEARD: &[&str] = &["heard", "x"];
+
+const JUDGE: &[&str] = &["judge", "x"];
 
 #[test]
 fn tables_are_printed(rt: HostRuntime) -> Result<(), Fail> {
     let alloc = rt.alloc();
     let one = format!(in alloc; "10.0.0.0/8 {ROUTE_TEXT}\nend\n")?;
-    expect(
-        &rt,
-        &["heard", "x"],
-        &update(alloc, &[8, 10])?,
-        Status::Done,
-        &one,
-    )?;
     let cleared = format!(in alloc; "10.0.0.0/13 {ROUTE_TEXT}\nend\n")?;
-    expect(
-        &rt,
-        &["heard", "x"],
-        &update(alloc, &[13, 10, 7])?,
-        Status::Done,
-        &cleared,
-    )?;
-    expect(&rt, &["heard", "x"], b"", Status::Done, "end\n")?;
-    expect(
-        &rt,
-        &["heard", "x"],
-        &message(alloc, 2, &[0, 0, 0, 0])?,
-        Status::Done,
-        "end\n",
-    )
+    let announced = update(alloc, &[8, 10])?;
+    let with_host_bits = update(alloc, &[13, 10, 7])?;
+    let empty = message(alloc, 2, &[0, 0, 0, 0])?;
+    for (stream, text) in [
+        (announced.as_slice(), one.as_str()),
+        (with_host_bits.as_slice(), cleared.as_str()),
+        (&[], "end\n"),
+        (empty.as_slice(), "end\n"),
+    ] {
+        expect(&rt, stream, b"", &[done(HEARD, text)])?;
+    }
+    Ok(())
 }
 
 // ORIGIN twice, the second with value 9.
@@ -66,30 +60,19 @@ fn messages_are_judged(rt: HostRuntime) -> Result<(), Fail> {
             "0 notice 3 11 -\nend\n",
         ),
     ] {
-        expect(
-            &rt,
-            &["judge", "x"],
-            &message(alloc, 2, body)?,
-            Status::Done,
-            text,
-        )?;
+        expect(&rt, &message(alloc, 2, body)?, b"", &[done(JUDGE, text)])?;
     }
     Ok(())
 }
 
 #[test]
-fn places_are_told(rt: HostRuntime) -> Result<(), Fail> {
+fn offsets_are_told(rt: HostRuntime) -> Result<(), Fail> {
     let alloc = rt.alloc();
     let mut stream = message(alloc, 4, &[])?;
     stream.extend_from_slice(&message(alloc, 2, &TWICE)?)?;
-    let text = "0 other\n19 notice 3 1 -\nend\n";
-    expect(&rt, &["judge", "x"], &stream, Status::Done, text)?;
+    let judged = done(JUDGE, "0 other\n19 notice 3 1 -\nend\n");
+    expect(&rt, &stream, b"", &[judged])?;
     let _ = stream.pop();
-    expect(
-        &rt,
-        &["judge", "x"],
-        &stream,
-        Status::BadStream(19),
-        "fault stream 19\n",
-    )
+    let cut = refused(JUDGE, Status::BadStream(19), "fault stream 19\n");
+    expect(&rt, &stream, b"", &[cut])
 }

@@ -1,4 +1,4 @@
-use super::{expect, expect_with, zeros};
+use super::{done, expect, refused, zeros};
 use std::alloc::Global;
 use std::test::Fail;
 use xb_domain::{BadKind, Part};
@@ -34,23 +34,21 @@ fuel = 100
 code = \"85000000010000009500000000000000\"
 ";
 
+const CHECK: &[&str] = &["check", "x", "m"];
+
+const CHECK_ALONE: &[&str] = &["check", "x", "-"];
+
 #[test]
 fn texts_are_counted(rt: HostRuntime) -> Result<(), Fail> {
-    let config = CONFIG.as_bytes();
-    let alone = "peers 3\nnetworks 0\nmaps 0\nprograms 0\nend\n";
-    expect(&rt, &["check", "x", "-"], config, Status::Done, alone)?;
-    let both = "peers 3\nnetworks 0\nmaps 1\nprograms 1\nend\n";
-    expect_with(
-        &rt,
-        &["check", "x", "m"],
-        config,
-        MANIFEST.as_bytes(),
-        Status::Done,
-        both,
-    )
+    let alone = done(
+        CHECK_ALONE,
+        "peers 3\nnetworks 0\nmaps 0\nprograms 0\nend\n",
+    );
+    let both = done(CHECK, "peers 3\nnetworks 0\nmaps 1\nprograms 1\nend\n");
+    expect(&rt, CONFIG.as_bytes(), MANIFEST.as_bytes(), &[alone, both])
 }
 
-// A configuration with so many peers.
+// A configuration with `count` peers.
 fn config_of_peers(alloc: Global, count: u32) -> Result<String, Fail> {
     let mut text = String::from_str(
         alloc,
@@ -70,50 +68,34 @@ fn configurations_are_refused(rt: HostRuntime) -> Result<(), Fail> {
     let short_hold = CONFIG.replace(alloc, "65000\n", "65000\nhold = 2\n")?;
     let unknown = format!(in alloc; "mtu = 1500\n{CONFIG}")?;
     let many = config_of_peers(alloc, 65)?;
-    for (text, kind, part, index, line) in [
-        (
-            "",
-            BadKind::Missing,
-            Part::Top,
-            0,
-            "fault config missing top 0\n",
-        ),
+    for (config, kind, part, index, text) in [
+        ("", BadKind::Missing, Part::Top, 0, "missing top 0"),
         (
             doubled.as_str(),
             BadKind::Double,
             Part::Peer,
             2,
-            "fault config double peer 2\n",
+            "double peer 2",
         ),
         (
             short_hold.as_str(),
             BadKind::Range,
             Part::Speaker,
             0,
-            "fault config range speaker 0\n",
+            "range speaker 0",
         ),
-        (
-            unknown.as_str(),
-            BadKind::Key,
-            Part::Top,
-            0,
-            "fault config key top 0\n",
-        ),
-        (
-            many.as_str(),
-            BadKind::Count,
-            Part::Top,
-            0,
-            "fault config count top 0\n",
-        ),
+        (unknown.as_str(), BadKind::Key, Part::Top, 0, "key top 0"),
+        (many.as_str(), BadKind::Count, Part::Top, 0, "count top 0"),
     ] {
         let status = Status::BadConfig(ConfigFault { kind, part, index });
-        expect(&rt, &["check", "x", "-"], text.as_bytes(), status, line)?;
+        let line = format!(in alloc; "fault config {text}\n")?;
+        let case = refused(CHECK_ALONE, status, &line);
+        expect(&rt, config.as_bytes(), b"", &[case])?;
     }
     Ok(())
 }
 
-// A manifest of so many maps with the widest keys and values, and one outbound program of that code.
+// A manifest of `maps` maps with the widest keys and values, and one outbound program of that code.
 fn manifest_of(alloc: Global, maps: u32, code: &str) -> Result<String, Fail> {
     let mut text = String::from_str(alloc, "version = 1\n")?;
     for i in 0..maps {
@@ -139,50 +121,34 @@ fn manifests_are_refused(rt: HostRuntime) -> Result<(), Fail> {
     let helper = manifest_of(alloc, 0, "850000000a0000009500000000000000")?;
     let wide = manifest_of(alloc, 4, NEXT)?;
     let doubled = wide.replace(alloc, "\"m1\"", "\"m0\"")?;
-    for (text, kind, part, index, line) in [
-        (
-            "",
-            BadKind::Missing,
-            Part::Top,
-            0,
-            "fault manifest missing top 0 0\n",
-        ),
+    let slot = 0;
+    for (manifest, kind, part, index, text) in [
+        ("", BadKind::Missing, Part::Top, 0, "missing top 0 0"),
         (
             helper.as_str(),
             BadKind::Helper,
             Part::Program,
             1,
-            "fault manifest helper program 1 0\n",
+            "helper program 1 0",
         ),
-        (
-            wide.as_str(),
-            BadKind::Room,
-            Part::Top,
-            0,
-            "fault manifest room top 0 0\n",
-        ),
+        (wide.as_str(), BadKind::Room, Part::Top, 0, "room top 0 0"),
         (
             doubled.as_str(),
             BadKind::Double,
             Part::Map,
             2,
-            "fault manifest double map 2 0\n",
+            "double map 2 0",
         ),
     ] {
         let status = Status::BadManifest(ManifestFault {
             kind,
             part,
             index,
-            slot: 0,
+            slot,
         });
-        expect_with(
-            &rt,
-            &["check", "x", "m"],
-            CONFIG.as_bytes(),
-            text.as_bytes(),
-            status,
-            line,
-        )?;
+        let line = format!(in alloc; "fault manifest {text}\n")?;
+        let case = refused(CHECK, status, &line);
+        expect(&rt, CONFIG.as_bytes(), manifest.as_bytes(), &[case])?;
     }
     Ok(())
 }
@@ -190,43 +156,22 @@ fn manifests_are_refused(rt: HostRuntime) -> Result<(), Fail> {
 #[test]
 fn the_widest_map_is_accepted(rt: HostRuntime) -> Result<(), Fail> {
     let one = manifest_of(rt.alloc(), 1, NEXT)?;
-    let text = "peers 3\nnetworks 0\nmaps 1\nprograms 1\nend\n";
-    expect_with(
-        &rt,
-        &["check", "x", "m"],
-        CONFIG.as_bytes(),
-        one.as_bytes(),
-        Status::Done,
-        text,
-    )
+    let counted = done(CHECK, "peers 3\nnetworks 0\nmaps 1\nprograms 1\nend\n");
+    expect(&rt, CONFIG.as_bytes(), one.as_bytes(), &[counted])
 }
 
-// The manifest has its turn when the configuration was judged.
+// The manifest is read after the configuration is judged.
 #[test]
-fn inputs_have_their_turns(rt: HostRuntime) -> Result<(), Fail> {
-    let fault = ConfigFault {
-        kind: BadKind::Missing,
-        part: Part::Top,
-        index: 0,
-    };
-    let refused = Status::BadConfig(fault);
-    expect(
-        &rt,
-        &["check", "x", "y"],
-        b"",
-        refused,
-        "fault config missing top 0\n",
-    )?;
-    let config = CONFIG.as_bytes();
-    expect(&rt, &["check", "x", "y"], config, Status::ReadFault, "")?;
-    let long = zeros(rt.alloc(), 1_048_577)?;
+fn the_configuration_comes_first(rt: HostRuntime) -> Result<(), Fail> {
+    let kind = BadKind::Missing;
+    let part = Part::Top;
+    let index = 0;
+    let bad = Status::BadConfig(ConfigFault { kind, part, index });
+    let neither = refused(&["check", "x", "y"], bad, "fault config missing top 0\n");
+    expect(&rt, b"", b"", &[neither])?;
+    let absent = refused(&["check", "x", "y"], Status::ReadFault, "");
     let too_long = Status::TooLong(File::Manifest);
-    expect_with(
-        &rt,
-        &["check", "x", "m"],
-        config,
-        &long,
-        too_long,
-        "fault long manifest\n",
-    )
+    let long = refused(CHECK, too_long, "fault long manifest\n");
+    let manifest = zeros(rt.alloc(), 1_048_577)?;
+    expect(&rt, CONFIG.as_bytes(), &manifest, &[absent, long])
 }

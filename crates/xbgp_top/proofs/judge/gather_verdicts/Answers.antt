@@ -3,7 +3,7 @@ use Rattle.xb_io.specs.Pages.{Gathered}
 use Rattle.xb_io.specs.declared.page.Halt.TheVariants.{OutOfMemory}
 use Rattle.xb_io.proofs.PageLemmas.{gathered_begin, gathers_stopped}
 use Rattle.xbgp_top.specs.Answers.{judge_line, judge_lines}
-use Rattle.xbgp_top.specs.Views.{message_view}
+use Rattle.bgp_update.specs.Views.{message_view}
 use Rattle.xbgp_top.proofs.JudgeLemmas.{all_lines, lines_of}
 use Rattle.xbgp_top.proofs.OutputLemmas.{gathered_line, stops_line, stops_memory}
 use Rattle.xbgp_top.proofs.judge.gather_verdicts.Goals as goal

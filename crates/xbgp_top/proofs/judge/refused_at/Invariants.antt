@@ -3,7 +3,7 @@ use Rattle.bgp_update.specs.Walks.{messages_from}
 use Rattle.xbgp_top.proofs.JudgeLemmas.{rest_of}
 use Rattle.xbgp_top.proofs.judge.refused_at.Given as goal
 
--- the messages that are left are refused where all are
+-- the messages that are left are refused at the offset at which all are
 abbrev pub invariant-messages : goal.invariant-messages
 invariant-messages l = rest_of l.messages ≡ rest_of (messages_from 0 l.octets)
 
