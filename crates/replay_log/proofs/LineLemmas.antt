@@ -5,9 +5,9 @@ use Rattle.std.specs.Str.{bytes_eq}
 use Rattle.std.proofs.lemmas.Bool.{ne_eqb, eq-eqb, eqb-true}
 use Rattle.std.proofs.lemmas.Slice.Eq.{bytes_eq-Decides}
 use Rattle.xb_words.specs.Optional.{◌>>=◌}
-use Rattle.xb_domain.specs.Actors.{Event, octets, time, room, rescan}
-use Rattle.xb_values.specs.Readers.{parts, is_digit, number_up_to, hex_value, read_hex}
-use Rattle.xb_values.proofs.ReaderLemmas.{parts_cases, number_none}
+use Rattle.xb_domain.specs.Events.{Event, octets, time, room, rescan}
+use Rattle.xb_values.specs.Readers.{split_on, is_digit, number_up_to, hex_value, read_hex}
+use Rattle.xb_values.proofs.ReaderLemmas.{split_on-cases, number_up_to-none}
 use Rattle.replay_log.specs.Lines.{blank_line, says, at_least, peer_word, count_word, time_word, some_octets, peer_event, event_of_words, line_of}
 
 equal-bytes_eq : (word text : List ℕ) → bytes_eq word text ≡ true → word ≡ text
@@ -15,7 +15,7 @@ equal-bytes_eq word text e = (bytes_eq-Decides word text).0 e
 
 -- a text that has another character than digits, as a space, is not a number
 at_least-none : (least most : ℕ) (text : List ℕ) → list_all is_digit text ≡ false → at_least least (number_up_to most text) ≡ None
-at_least-none least most text other = rw (number_none most text other) refl
+at_least-none least most text other = rw (number_up_to-none most text other) refl
 
 -- the event of a peer and a count, of a peer and octets, of a peer, and of a time, if they are there
 abbrev pub room_event : Option ℕ → Option ℕ → Option Event
@@ -54,33 +54,33 @@ peer_event_of-none None peer e = refl
 peer_event_of-none (Some f) peer e = rw e refl
 
 -- `room` and one word, which is refused
-pub event_of_words-lone_room : (peers now : ℕ) (word arguments : List ℕ) → bytes_eq word (codes "room") ≡ true → parts 32 arguments ≡ arguments ∷ []
-    → event_of_words peers now (word ∷ parts 32 arguments) ≡ None
+pub event_of_words-lone_room : (peers now : ℕ) (word arguments : List ℕ) → bytes_eq word (codes "room") ≡ true → split_on 32 arguments ≡ arguments ∷ []
+    → event_of_words peers now (word ∷ split_on 32 arguments) ≡ None
 unfolding event_of_words
 event_of_words-lone_room peers now word arguments w e = rw (equal-bytes_eq word (codes "room") w, e) refl
 
 -- `room`, a peer, and the words after it
-pub event_of_words-room : (peers now : ℕ) (word arguments peer count : List ℕ) → bytes_eq word (codes "room") ≡ true → parts 32 arguments ≡ peer ∷ parts 32 count
-    → event_of_words peers now (word ∷ parts 32 arguments) ≡ room_event (peer_word peers peer) (count_word count)
+pub event_of_words-room : (peers now : ℕ) (word arguments peer count : List ℕ) → bytes_eq word (codes "room") ≡ true → split_on 32 arguments ≡ peer ∷ split_on 32 count
+    → event_of_words peers now (word ∷ split_on 32 arguments) ≡ room_event (peer_word peers peer) (count_word count)
 unfolding event_of_words
 event_of_words-room peers now word arguments peer count w e =
-    elim (parts_cases is_digit 32 count refl) [
+    elim (split_on-cases is_digit 32 count refl) [
       | inl one ↦ rw (equal-bytes_eq word (codes "room") w, e, one) refl
       | inr (p, q, ps, more, other) ↦
           rw (equal-bytes_eq word (codes "room") w, e, more) (sym (room_event-none (peer_word peers peer) (count_word count) (at_least-none 1 (2 ^ 32 - 1) count other)))
     ]
 
 -- `in` and one word, which is refused
-pub event_of_words-lone_in : (peers now : ℕ) (arguments : List ℕ) → parts 32 arguments ≡ arguments ∷ [] → event_of_words peers now (codes "in" ∷ parts 32 arguments) ≡ None
+pub event_of_words-lone_in : (peers now : ℕ) (arguments : List ℕ) → split_on 32 arguments ≡ arguments ∷ [] → event_of_words peers now (codes "in" ∷ split_on 32 arguments) ≡ None
 unfolding event_of_words
 event_of_words-lone_in peers now arguments e = rw e refl
 
 -- `time` and the words after it
 pub event_of_words-time : (peers now : ℕ) (word arguments : List ℕ) → bytes_eq word (codes "time") ≡ true
-    → event_of_words peers now (word ∷ parts 32 arguments) ≡ time_event (time_word now arguments)
+    → event_of_words peers now (word ∷ split_on 32 arguments) ≡ time_event (time_word now arguments)
 unfolding event_of_words
 event_of_words-time peers now word arguments w =
-    elim (parts_cases is_digit 32 arguments refl) [
+    elim (split_on-cases is_digit 32 arguments refl) [
       | inl one ↦ rw (equal-bytes_eq word (codes "time") w, one) refl
       | inr (p, q, [], more, other) ↦ rw (equal-bytes_eq word (codes "time") w, more, at_least-none now (2 ^ 32 - 1) arguments other) refl
       | inr (p, q, r ∷ ps, more, other) ↦ rw (more, at_least-none now (2 ^ 32 - 1) arguments other) refl
@@ -88,10 +88,10 @@ event_of_words-time peers now word arguments w =
 
 -- another word and the words after it
 pub event_of_words-peer : (peers now : ℕ) (word arguments : List ℕ) → bytes_eq word (codes "in") ≡ false → bytes_eq word (codes "room") ≡ false → bytes_eq word (codes "time") ≡ false
-    → event_of_words peers now (word ∷ parts 32 arguments) ≡ peer_event_of (peer_event word) (peer_word peers arguments)
+    → event_of_words peers now (word ∷ split_on 32 arguments) ≡ peer_event_of (peer_event word) (peer_word peers arguments)
 unfolding event_of_words
 event_of_words-peer peers now word arguments not_in not_room not_time =
-    elim (parts_cases is_digit 32 arguments refl) [
+    elim (split_on-cases is_digit 32 arguments refl) [
       | inl one ↦ rw (one, not_time) refl
       | inr (p, q, [], more, other) ↦ rw (more, not_in, not_room) (sym (peer_event_of-none (peer_event word) (peer_word peers arguments) (at_least-none 1 peers arguments other)))
       | inr (p, q, r ∷ ps, more, other) ↦ rw more (sym (peer_event_of-none (peer_event word) (peer_word peers arguments) (at_least-none 1 peers arguments other)))
@@ -115,26 +115,26 @@ some_octets-none [] none = refl
 some_octets-none (c ∷ text) none = none
 
 -- `in`, a peer, and the words after it
-pub event_of_words-in : (peers now : ℕ) (arguments peer digits : List ℕ) → parts 32 arguments ≡ peer ∷ parts 32 digits
-    → event_of_words peers now (codes "in" ∷ parts 32 arguments) ≡ octets_event (peer_word peers peer) (some_octets digits)
+pub event_of_words-in : (peers now : ℕ) (arguments peer digits : List ℕ) → split_on 32 arguments ≡ peer ∷ split_on 32 digits
+    → event_of_words peers now (codes "in" ∷ split_on 32 arguments) ≡ octets_event (peer_word peers peer) (some_octets digits)
 unfolding event_of_words
 event_of_words-in peers now arguments peer digits e =
-    elim (parts_cases (λ c. is_some (hex_value c)) 32 digits refl) [
+    elim (split_on-cases (λ c. is_some (hex_value c)) 32 digits refl) [
       | inl one ↦ rw (e, one) refl
       | inr (p, q, ps, more, other) ↦ rw (e, more) (sym (octets_event-none (peer_word peers peer) (some_octets digits) (some_octets-none digits (read_hex-none digits other))))
     ]
 
 -- the same by what the code read of the words: `room`, `time`, and the word of a peer's event
-pub room_event-words : (peers now : ℕ) (word arguments peer count : List ℕ) (p k : Option ℕ) → bytes_eq word (codes "room") ≡ true → parts 32 arguments ≡ peer ∷ parts 32 count
-    → p ≡ peer_word peers peer → k ≡ count_word count → room_event p k ≡ event_of_words peers now (word ∷ parts 32 arguments)
+pub room_event-words : (peers now : ℕ) (word arguments peer count : List ℕ) (p k : Option ℕ) → bytes_eq word (codes "room") ≡ true → split_on 32 arguments ≡ peer ∷ split_on 32 count
+    → p ≡ peer_word peers peer → k ≡ count_word count → room_event p k ≡ event_of_words peers now (word ∷ split_on 32 arguments)
 room_event-words peers now word arguments peer count p k w e is_p is_k = rw (is_p, is_k) (sym (event_of_words-room peers now word arguments peer count w e))
 
 pub time_event-words : (peers now : ℕ) (word arguments : List ℕ) (t : Option ℕ) → bytes_eq word (codes "time") ≡ true → t ≡ time_word now arguments
-    → time_event t ≡ event_of_words peers now (word ∷ parts 32 arguments)
+    → time_event t ≡ event_of_words peers now (word ∷ split_on 32 arguments)
 time_event-words peers now word arguments t w is_t = rw is_t (sym (event_of_words-time peers now word arguments w))
 
 pub peer_event_of-words : (peers now : ℕ) (word arguments : List ℕ) (p : Option ℕ) → bytes_eq word (codes "in") ≡ false → bytes_eq word (codes "room") ≡ false
-    → bytes_eq word (codes "time") ≡ false → p ≡ peer_word peers arguments → peer_event_of (peer_event word) p ≡ event_of_words peers now (word ∷ parts 32 arguments)
+    → bytes_eq word (codes "time") ≡ false → p ≡ peer_word peers arguments → peer_event_of (peer_event word) p ≡ event_of_words peers now (word ∷ split_on 32 arguments)
 peer_event_of-words peers now word arguments p not_in not_room not_time is_p = rw is_p (sym (event_of_words-peer peers now word arguments not_in not_room not_time))
 
 -- the event of a word, with the number of a peer
@@ -144,16 +144,16 @@ option_map-peer_event (Some e) p = refl
 
 -- the event of a word whose peer is refused, of `room` with such a peer, and of `in` with such a peer
 pub none-peer_words : (peers now : ℕ) (word arguments : List ℕ) → bytes_eq word (codes "in") ≡ false → bytes_eq word (codes "room") ≡ false → bytes_eq word (codes "time") ≡ false
-    → None ≡ peer_word peers arguments → let none : Option Event = None in none ≡ event_of_words peers now (word ∷ parts 32 arguments)
+    → None ≡ peer_word peers arguments → let none : Option Event = None in none ≡ event_of_words peers now (word ∷ split_on 32 arguments)
 none-peer_words peers now word arguments not_in not_room not_time is_p =
     sym (peer_event_of-none (peer_event word) (peer_word peers arguments) (sym is_p)) ∙ sym (event_of_words-peer peers now word arguments not_in not_room not_time)
 
-pub none-room_words : (peers now : ℕ) (word arguments peer count : List ℕ) → bytes_eq word (codes "room") ≡ true → parts 32 arguments ≡ peer ∷ parts 32 count
-    → None ≡ peer_word peers peer → let none : Option Event = None in none ≡ event_of_words peers now (word ∷ parts 32 arguments)
+pub none-room_words : (peers now : ℕ) (word arguments peer count : List ℕ) → bytes_eq word (codes "room") ≡ true → split_on 32 arguments ≡ peer ∷ split_on 32 count
+    → None ≡ peer_word peers peer → let none : Option Event = None in none ≡ event_of_words peers now (word ∷ split_on 32 arguments)
 none-room_words peers now word arguments peer count w e is_p = room_event-words peers now word arguments peer count None (count_word count) w e is_p refl
 
-pub none-in_words : (peers now : ℕ) (arguments peer digits : List ℕ) → parts 32 arguments ≡ peer ∷ parts 32 digits
-    → None ≡ peer_word peers peer → let none : Option Event = None in none ≡ event_of_words peers now (codes "in" ∷ parts 32 arguments)
+pub none-in_words : (peers now : ℕ) (arguments peer digits : List ℕ) → split_on 32 arguments ≡ peer ∷ split_on 32 digits
+    → None ≡ peer_word peers peer → let none : Option Event = None in none ≡ event_of_words peers now (codes "in" ∷ split_on 32 arguments)
 none-in_words peers now arguments peer digits e is_p = rw (event_of_words-in peers now arguments peer digits e) (rw (sym is_p) refl)
 
 some_octets-read_hex : (text : List ℕ) → false ≡ (length text == 0) → some_octets text ≡ read_hex text
@@ -165,17 +165,17 @@ none-is_some None e = refl
 none-is_some (Some bytes) e = let wrong : false ≡ true = e in cc wrong
 
 -- `in` with a peer and octets, with no digit, and with digits that are refused
-pub octets-in_words : (peers now : ℕ) (arguments peer digits : List ℕ) (p : ℕ) (bytes : List ℕ) → parts 32 arguments ≡ peer ∷ parts 32 digits → Some p ≡ peer_word peers peer
-    → false ≡ (length digits == 0) → read_hex digits ≡ Some bytes → Some (octets p bytes) ≡ event_of_words peers now (codes "in" ∷ parts 32 arguments)
+pub octets-in_words : (peers now : ℕ) (arguments peer digits : List ℕ) (p : ℕ) (bytes : List ℕ) → split_on 32 arguments ≡ peer ∷ split_on 32 digits → Some p ≡ peer_word peers peer
+    → false ≡ (length digits == 0) → read_hex digits ≡ Some bytes → Some (octets p bytes) ≡ event_of_words peers now (codes "in" ∷ split_on 32 arguments)
 octets-in_words peers now arguments peer digits p bytes e is_p some is_b = rw (event_of_words-in peers now arguments peer digits e, ← is_p, some_octets-read_hex digits some, is_b) refl
 
-pub none-empty_in : (peers now : ℕ) (arguments peer digits : List ℕ) → parts 32 arguments ≡ peer ∷ parts 32 digits → true ≡ (length digits == 0)
-    → let none : Option Event = None in none ≡ event_of_words peers now (codes "in" ∷ parts 32 arguments)
+pub none-empty_in : (peers now : ℕ) (arguments peer digits : List ℕ) → split_on 32 arguments ≡ peer ∷ split_on 32 digits → true ≡ (length digits == 0)
+    → let none : Option Event = None in none ≡ event_of_words peers now (codes "in" ∷ split_on 32 arguments)
 none-empty_in peers now arguments peer [] e empty = rw (event_of_words-in peers now arguments peer [] e) (sym (octets_event-none (peer_word peers peer) None refl))
 none-empty_in peers now arguments peer (c ∷ digits) e empty = let wrong : suc (length digits) ≡ 0 = eqb-true (suc (length digits)) 0 (sym empty) in absurd (omega arith)
 
-pub none-bad_in : (peers now : ℕ) (arguments peer digits : List ℕ) → parts 32 arguments ≡ peer ∷ parts 32 digits → false ≡ is_some (read_hex digits)
-    → let none : Option Event = None in none ≡ event_of_words peers now (codes "in" ∷ parts 32 arguments)
+pub none-bad_in : (peers now : ℕ) (arguments peer digits : List ℕ) → split_on 32 arguments ≡ peer ∷ split_on 32 digits → false ≡ is_some (read_hex digits)
+    → let none : Option Event = None in none ≡ event_of_words peers now (codes "in" ∷ split_on 32 arguments)
 none-bad_in peers now arguments peer digits e bad =
     rw (event_of_words-in peers now arguments peer digits e) (sym (octets_event-none (peer_word peers peer) (some_octets digits) (some_octets-none digits (none-is_some (read_hex digits) bad))))
 
@@ -184,10 +184,10 @@ bind-says : (event : Option Event) → (event >>= λ e. Some (says e)) ≡ optio
 bind-says None = refl
 bind-says (Some e) = refl
 
-pub line_of-words : (peers now : ℕ) (line : List ℕ) → 0 < length line → (get_or line 0 0 ≡ 35 → ⊥) → line_of peers now line ≡ option_map says (event_of_words peers now (parts 32 line))
+pub line_of-words : (peers now : ℕ) (line : List ℕ) → 0 < length line → (get_or line 0 0 ≡ 35 → ⊥) → line_of peers now line ≡ option_map says (event_of_words peers now (split_on 32 line))
 unfolding line_of
 line_of-words peers now [] some other = absurd (omega arith)
-line_of-words peers now (c ∷ text) some other = rw (ne_eqb c 35 other) (bind-says (event_of_words peers now (parts 32 (c ∷ text))))
+line_of-words peers now (c ∷ text) some other = rw (ne_eqb c 35 other) (bind-says (event_of_words peers now (split_on 32 (c ∷ text))))
 
 -- a line that begins with `#`
 pub line_of-comment : (peers now : ℕ) (line : List ℕ) → get_or line 0 0 ≡ 35 → line_of peers now line ≡ Some blank_line
@@ -197,7 +197,7 @@ line_of-comment peers now (c ∷ text) is = rw (eq-eqb c 35 is) refl
 
 -- the same by what the code read of its words
 pub says-line_of : (peers now : ℕ) (line : List ℕ) (words : List (List ℕ)) (event : Option Event) → false ≡ (length line == 0) → (get_or line 0 0 ≡ 35 → ⊥)
-    → parts 32 line ≡ words → event ≡ event_of_words peers now words → option_map says event ≡ line_of peers now line
+    → split_on 32 line ≡ words → event ≡ event_of_words peers now words → option_map says event ≡ line_of peers now line
 says-line_of peers now [] words event some other e is = let wrong : false ≡ true = some in cc wrong
 says-line_of peers now (c ∷ text) words event some other e is =
     rw (is, ← e) (sym (line_of-words peers now (c ∷ text) (omega arith) other))
@@ -215,7 +215,7 @@ blank_line-line_of peers now (c ∷ text) e = let wrong : suc (length text) ≡ 
 
 -- a line whose first word is `in`
 pub says-line_of_in : (peers now : ℕ) (line word arguments : List ℕ) (event : Option Event) → false ≡ (length line == 0) → (get_or line 0 0 ≡ 35 → ⊥)
-    → parts 32 line ≡ word ∷ parts 32 arguments → bytes_eq word (codes "in") ≡ true → event ≡ event_of_words peers now (codes "in" ∷ parts 32 arguments)
+    → split_on 32 line ≡ word ∷ split_on 32 arguments → bytes_eq word (codes "in") ≡ true → event ≡ event_of_words peers now (codes "in" ∷ split_on 32 arguments)
     → option_map says event ≡ line_of peers now line
 says-line_of_in peers now line word arguments event some other split w e =
-    says-line_of peers now line (codes "in" ∷ parts 32 arguments) event some other (split ∙ ap (λ (t : List ℕ). t ∷ parts 32 arguments) (equal-bytes_eq word (codes "in") w)) e
+    says-line_of peers now line (codes "in" ∷ split_on 32 arguments) event some other (split ∙ ap (λ (t : List ℕ). t ∷ split_on 32 arguments) (equal-bytes_eq word (codes "in") w)) e

@@ -3,8 +3,9 @@ ghost use Rattle.std.specs.Prelude.{◌≡◌, ℕ, ◌≤◌, ◌∷◌, length
 ghost use Rattle.std.specs.Borrow.{sem};
 ghost use Rattle.std.specs.Option.{option_map};
 ghost use Rattle.std.specs.Str.{bytes_eq};
-ghost use Rattle.xb_domain.specs.Actors.{event_of, octets as octets_in, rescan};
-ghost use Rattle.xb_values.specs.Readers.{parts, number_up_to};
+ghost use Rattle.xb_domain.specs.Views.{event_view};
+ghost use Rattle.xb_domain.specs.Events.{octets as octets_in, rescan};
+ghost use Rattle.xb_values.specs.Readers.{split_on, number_up_to};
 ghost use Rattle.replay_log.specs.Lines.{at_least, peer_event, event_of_words, line_of};
 ghost use Rattle.replay_log.specs.Views.{line_view, told_view, KeepsRoom};
 
@@ -42,7 +43,7 @@ fn number_in(text: &[u8], least: u32, most: u32) -> Option<u32>
 
 // The event for a word followed by a peer number and nothing else.
 fn peer_event(word: &[u8], peer: u32) -> Option<Event<'static>>
-    ensures { option_map event_of result ≡ option_map (λ e. e peer) (peer_event word.now) }
+    ensures { option_map event_view result ≡ option_map (λ e. e peer) (peer_event word.now) }
 {
     match word {
         b"start" => Some(Event::Start(peer)),
@@ -56,7 +57,7 @@ fn peer_event(word: &[u8], peer: u32) -> Option<Event<'static>>
 
 // The event for a word followed by nothing.
 fn lone_event(word: &[u8]) -> Option<Event<'static>>
-    ensures { option_map event_of result ≡ (if bytes_eq word.now (codes "rescan") then Some rescan else None) }
+    ensures { option_map event_view result ≡ (if bytes_eq word.now (codes "rescan") then Some rescan else None) }
 {
     if word == b"rescan".as_slice() {
         Some(Event::Rescan)
@@ -68,7 +69,7 @@ fn lone_event(word: &[u8]) -> Option<Event<'static>>
 // The event for a word and its arguments, except for `in`.
 fn word_event(word: &[u8], arguments: &[u8], peers: u32, now: u32) -> Option<Event<'static>>
     requires { bytes_eq word.now (codes "in") ≡ false }
-    ensures { option_map event_of result ≡ event_of_words peers now (word.now ∷ parts 32 arguments.now) }
+    ensures { option_map event_view result ≡ event_of_words peers now (word.now ∷ split_on 32 arguments.now) }
 {
     if word == b"room".as_slice() {
         let (peer, count) = split_once(arguments, b' ')?;

@@ -1,6 +1,6 @@
 //! The lines of a log that a shelf holds, one after another, each octet read once.
 ghost use Rattle.std.specs.Prelude.{◌≡◌, ◌≢◌, ◌⊎◌, ℕ, ◌+◌, ◌<◌, ◌≤◌, List, [], length, slice_get, Some, IfOk, IfSome, IfErr, OnOk, OnErr, IsErr};
-ghost use Rattle.xb_io.specs.Causes.{Rose, IsMissing, told_text};
+ghost use Rattle.xb_io.specs.Causes.{FaultsRose, IsMissing, told_file};
 ghost use Rattle.replay_log.specs.Readings.{next_at, got_view, IsReadAhead};
 
 use crate::limits::{LINE_LIMIT, LOG_LIMIT};
@@ -50,13 +50,13 @@ impl Model for LogReader {
 // The octet at the offset `at`, or None after the last one.
 fn octet_at<S: Shelf>(shelf: &mut S, name: &str, at: u64) -> Result<Option<u8>, Failed>
     ensures same { S.held shelf.new ≡ S.held shelf.old }
-    ensures octet { (log : List ℕ) → told_text (S.held shelf.old) name.now ≡ Some log
+    ensures octet { (log : List ℕ) → told_file (S.held shelf.old) name.now ≡ Some log
         → IfOk result (λ o. o ≡ slice_get log at) }
     ensures missing { IsMissing (S.held shelf.old) name.now → IsErr result }
     ensures quiet { OnOk result (S.faults shelf.new ≡ S.faults shelf.old) }
     ensures later { S.faults shelf.old ≤ S.faults shelf.new }
     ensures cause { OnErr result
-        (Rose (S.faults shelf.old) (S.faults shelf.new) ⊎ IsMissing (S.held shelf.old) name.now) }
+        (FaultsRose (S.faults shelf.old) (S.faults shelf.new) ⊎ IsMissing (S.held shelf.old) name.now) }
 {
     let mut octet = [0u8];
     match shelf.read(name, at, &mut octet)? {
@@ -69,7 +69,7 @@ fn octet_at<S: Shelf>(shelf: &mut S, name: &str, at: u64) -> Result<Option<u8>, 
 fn read_line<S: Shelf>(shelf: &mut S, name: &str, start: u64, line: &mut Buf) -> (Got, u64)
     requires start { start ≤ LOG_LIMIT }
     requires empty { line.old ≡ record { octets = []; capacity = LINE_LIMIT } }
-    ensures told { (log : List ℕ) → told_text (S.held shelf.old) name.now ≡ Some log
+    ensures told { (log : List ℕ) → told_file (S.held shelf.old) name.now ≡ Some log
         → IfSome
         (got_view result.0 (record { line = line.new.octets; at = result.1; ahead = [] }))
         (λ next. next ≡ next_at log start) }
@@ -82,7 +82,7 @@ fn read_line<S: Shelf>(shelf: &mut S, name: &str, start: u64, line: &mut Buf) ->
     ensures quiet { result.0 ≢ Got.Failed → S.faults shelf.new ≡ S.faults shelf.old }
     ensures later { S.faults shelf.old ≤ S.faults shelf.new }
     ensures cause { result.0 ≡ Got.Failed
-        → Rose (S.faults shelf.old) (S.faults shelf.new) ⊎ IsMissing (S.held shelf.old) name.now }
+        → FaultsRose (S.faults shelf.old) (S.faults shelf.new) ⊎ IsMissing (S.held shelf.old) name.now }
 {
     let mut at = start;
     'octets: loop {
@@ -118,7 +118,7 @@ impl LogReader {
     /// and the call may be made again.
     pub fn next_line<S: Shelf>(&mut self, shelf: &mut S, name: &str) -> Got
         requires { IsReadAhead (S.held shelf.old) name.now self.old }
-        ensures told { (log : List ℕ) → told_text (S.held shelf.old) name.now ≡ Some log
+        ensures told { (log : List ℕ) → told_file (S.held shelf.old) name.now ≡ Some log
             → IfSome (got_view result self.new) (λ next. next ≡ next_at log self.old.at) }
         ensures forward { result ≡ Got.Line → self.old.at < self.new.at }
         ensures within { self.new.at ≤ LOG_LIMIT }
@@ -128,7 +128,7 @@ impl LogReader {
 
         // A failure has its cause; without one the shelf's count stays. What the shelf holds always stays.
         ensures cause { result ≡ Got.Failed
-            → Rose (S.faults shelf.old) (S.faults shelf.new) ⊎ IsMissing (S.held shelf.old) name.now }
+            → FaultsRose (S.faults shelf.old) (S.faults shelf.new) ⊎ IsMissing (S.held shelf.old) name.now }
         ensures quiet { result ≢ Got.Failed → S.faults shelf.new ≡ S.faults shelf.old }
         ensures later { S.faults shelf.old ≤ S.faults shelf.new }
         ensures same { S.held shelf.new ≡ S.held shelf.old }

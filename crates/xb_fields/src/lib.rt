@@ -16,7 +16,5 @@ mod value;
 
 pub use document::read_document;
 pub use fault::{FieldError, FieldFault, Location};
-pub use field::{
-    keys_listed, optional_list, optional_number, required, required_number, required_text, value_at,
-};
+pub use field::{keys_listed, optional_list, optional_number, required, required_number, required_text, value_at};
 pub use value::{list_of, number, table_with, text};

@@ -13,8 +13,8 @@ use Rattle.toml.specs.View.{view}
 use Rattle.toml.specs.declared.value.Value.{Value}
 use Rattle.bpf_insn.specs.declared.fault.LoadFault.{LoadFault}
 use Rattle.bpf_insn.specs.Loading.{load_fault}
-use Rattle.bpf_insn.proofs.Faults.{calls_only}
-use Rattle.xb_domain.specs.Actors.{helper_allowed}
+use Rattle.bpf_insn.proofs.LoadLemmas.{CallsOnly-load_fault}
+use Rattle.xb_domain.specs.Points.{helper_allowed}
 use Rattle.xb_domain.specs.declared.bad.BadKind.TheVariants.{Key, Room, Double}
 use Rattle.xb_domain.specs.declared.bad.Part.TheVariants.{Top, Map, Program}
 use Rattle.xb_fields.specs.declared.fault.FieldFault.{FieldFault}
@@ -30,7 +30,7 @@ use Rattle.xbgp_manifest.specs.declared.fault.ManifestFault.{ManifestFault}
 use Rattle.xbgp_manifest.specs.declared.entries.MapEntry.{MapEntry}
 use Rattle.xbgp_manifest.specs.declared.entries.ProgramEntry.{ProgramEntry}
 use Rattle.xbgp_manifest.specs.Manifests.{Manifest, IsManifest, IsProgram, is_name, is_fuel, entry_shapes, room_of, in_slot, in_no_slot, name_text, point_text, code_text, map_shape, map_keys, map_fields, map_entry, load_bad, program_keys, program_fields, named_program, loaded_program, program_entry, manifest_keys, maps_of, manifest_of, manifest}
-use Rattle.xb_words.proofs.Ends.{all_push}
+use Rattle.xb_words.proofs.ListLemmas.{AllByRecursion-push}
 
 -- a judgement of fields that gives a value
 in_no_slot-ok : {A : Type 0} (judged : Judged A) (x : A) → in_no_slot judged ≡ Ok x → judged ≡ Ok x
@@ -83,7 +83,7 @@ map_entry-keeps i earlier d x kept e =
     let same : b.0 ≡ x = ok-injective b.0 x m.1 in
     let none : list_any (λ p. bytes_eq x.name p.name) earlier ≡ false = rw same at (not-true _ m.0) in
     let ranges = map_fields-ranges i d x (b.1 ∙ ap Ok same) in (
-      rw (map-append (λ p. p.shape) earlier (x ∷ [])) (all_push ShapeKept (entry_shapes earlier) x.shape kept.0 ranges.1),
+      rw (map-append (λ p. p.shape) earlier (x ∷ [])) (AllByRecursion-push ShapeKept (entry_shapes earlier) x.shape kept.0 ranges.1),
       All-push (λ p. IsTrue (is_name p.name)) earlier x kept.1 ranges.0,
       all_pairs_push (λ p q. p.name ≢ q.name) earlier x kept.2 (differs (λ p. p.name) earlier x none),
     )
@@ -137,7 +137,7 @@ program_entry-keeps i earlier d x kept e =
     let ranges = program_fields-ranges i d x (b.1 ∙ ap Ok same) in
     let loaded : load_fault (helper_allowed x.point) x.code ≡ None = rw l.0 at l.1 in (
       All-push IsProgram earlier x kept.0
-          (record { name = ranges.0; fuel = ranges.1; loaded = loaded; calls = calls_only (helper_allowed x.point) x.code loaded }),
+          (record { name = ranges.0; fuel = ranges.1; loaded = loaded; calls = CallsOnly-load_fault (helper_allowed x.point) x.code loaded }),
       all_pairs_push (λ p q. p.name ≢ q.name) earlier x kept.1 (differs (λ p. p.name) earlier x none),
     )
 

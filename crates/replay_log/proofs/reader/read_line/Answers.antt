@@ -1,6 +1,6 @@
 use Rattle.std.proofs.Common.{◌≡◌, ◌+◌, ◌<◌, length, Option, Some, ◌∙◌, sym, ap, arith, length-append, refl}
 use Rattle.xb_values.specs.Buffers.{Buffer}
-use Rattle.xb_io.specs.Causes.{Files, told_text}
+use Rattle.xb_io.specs.Causes.{Files, told_file}
 use Rattle.replay_log.specs.declared.limits.TheConstants.{LINE_LIMIT}
 use Rattle.replay_log.proofs.ReadingLemmas.{left_at, left_at-start, left_at-end, left_at-last, left_at-limit, left_at-line_end, left_at-unpushed, left_at-pushed}
 use Rattle.replay_log.proofs.reader.read_line.Goals as goal
@@ -21,35 +21,35 @@ octets-init g c =
 pub returns-in-Ok-None-clause-told : goal.returns-in-Ok-None-clause-told
 returns-in-Ok-None-clause-told g c =
     λ log is.
-    let told = ap (λ (h : Option Files). told_text h c.args.name.now) c.octets.invariant.held ∙ is in
+    let told = ap (λ (h : Option Files). told_file h c.args.name.now) c.octets.invariant.held ∙ is in
     sym (left_at-end c.octets.at c.len.result c.octets.line.octets log (sym c.in-Ok-None.field-0-is ∙ c.in-Ok-None.ensures.octet log told) c.octets.invariant.within c.len.ensures.value c.if-len-eq0.true)
     ∙ c.octets.invariant.left log is
 
 pub returns-in-Ok-None-2-clause-told : goal.returns-in-Ok-None-2-clause-told
 returns-in-Ok-None-2-clause-told g c =
     λ log is.
-    let told = ap (λ (h : Option Files). told_text h c.args.name.now) c.octets.invariant.held ∙ is in
+    let told = ap (λ (h : Option Files). told_file h c.args.name.now) c.octets.invariant.held ∙ is in
     sym (left_at-last c.octets.at c.len.result c.octets.line.octets log (sym c.in-Ok-None.field-0-is ∙ c.in-Ok-None.ensures.octet log told) c.octets.invariant.within c.len.ensures.value c.if-len-eq0.false)
     ∙ c.octets.invariant.left log is
 
 pub returns-in-Ok-Some-clause-told : goal.returns-in-Ok-Some-clause-told
 returns-in-Ok-Some-clause-told g c =
     λ log is.
-    let told = ap (λ (h : Option Files). told_text h c.args.name.now) c.octets.invariant.held ∙ is in
+    let told = ap (λ (h : Option Files). told_file h c.args.name.now) c.octets.invariant.held ∙ is in
     sym (left_at-limit c.octets.at c.in-Ok-Some.field-0-0 c.octets.line.octets log (sym c.in-Ok-Some.field-0-is ∙ c.in-Ok-Some.ensures.octet log told) c.if-at-ge-LOG_LIMIT.true)
     ∙ c.octets.invariant.left log is
 
 pub returns-in-Ok-Some-eq10-clause-told : goal.returns-in-Ok-Some-eq10-clause-told
 returns-in-Ok-Some-eq10-clause-told g c =
     λ log is.
-    let told = ap (λ (h : Option Files). told_text h c.args.name.now) c.octets.invariant.held ∙ is in
+    let told = ap (λ (h : Option Files). told_file h c.args.name.now) c.octets.invariant.held ∙ is in
     sym (left_at-line_end c.octets.at c.octets.line.octets log (ap Some (sym c.in-Ok-Some-eq10.field-0-0-test) ∙ sym c.in-Ok-Some.field-0-is ∙ c.in-Ok-Some.ensures.octet log told) c.if-at-ge-LOG_LIMIT.false)
     ∙ c.octets.invariant.left log is
 
 pub returns-then-not-push-clause-told : goal.returns-then-not-push-clause-told
 returns-then-not-push-clause-told g c =
     λ log is.
-    let told = ap (λ (h : Option Files). told_text h c.args.name.now) c.octets.invariant.held ∙ is in
+    let told = ap (λ (h : Option Files). told_file h c.args.name.now) c.octets.invariant.held ∙ is in
     sym (left_at-unpushed c.octets.at c.in-Ok-Some.field-0-0 c.octets.line c.push.new.self log (sym c.in-Ok-Some.field-0-is ∙ c.in-Ok-Some.ensures.octet log told) c.if-at-ge-LOG_LIMIT.false
     c.in-Ok-Some-2.octet-test.1 c.if-not-push.ensures c.octets.invariant.short c.octets.invariant.room)
     ∙ c.octets.invariant.left log is
@@ -64,7 +64,7 @@ octets-preserved g c =
       held = c.in-Ok-Some.ensures.same ∙ c.octets.invariant.held;
       faults = c.in-Ok-Some.ensures.quiet ∙ c.octets.invariant.faults;
       left = λ log is.
-          let told = ap (λ (h : Option Files). told_text h c.args.name.now) c.octets.invariant.held ∙ is in
+          let told = ap (λ (h : Option Files). told_file h c.args.name.now) c.octets.invariant.held ∙ is in
           left_at-pushed c.octets.at c.in-Ok-Some.field-0-0 c.octets.line c.push.new.self log (sym c.in-Ok-Some.field-0-is ∙ c.in-Ok-Some.ensures.octet log told) c.if-at-ge-LOG_LIMIT.false
           c.in-Ok-Some-2.octet-test.1 grown less
           ∙ c.octets.invariant.left log is;

@@ -1,5 +1,5 @@
 use Rattle.std.proofs.Common.{◌≡◌, ℕ, ◌+◌, ◌-◌, ◌≤◌, List, length, Some}
-use Rattle.xb_io.specs.Causes.{told_text}
+use Rattle.xb_io.specs.Causes.{told_file}
 use Rattle.replay_log.specs.Readings.{next_at}
 use Rattle.replay_log.specs.declared.limits.TheConstants.{LINE_LIMIT, LOG_LIMIT}
 use Rattle.replay_log.proofs.ReadingLemmas.{left_at}
