@@ -1,7 +1,7 @@
 //! The event log of a replay: what a line says, and the lines of a log.
 //!
 //! A log is text. Each of its lines is one event, or nothing: `specs/Lines` has the grammar, which `parse_line` reads.
-//! A line names a peer by its number, which is judged by how many peers are configured, and a `time` line may not put
+//! A line names a peer by its number, which is judged by how many peers are configured, and a `time` line may not set
 //! the clock back; so `parse_line` takes both. The octets of an `in` line go into a buffer of the caller, which the
 //! event borrows.
 //!

@@ -34,7 +34,7 @@ length-judged_from judge i earlier (d ∷ ds) out e =
     omega (arith, length-judged_from judge (i + 1) (earlier ++ b.0 ∷ []) ds out b.2, length-append earlier (b.0 ∷ []))
 
 module _ {A F : Type 0} (judge : ℕ → List A → Data → Result A F) where
-  -- the values from an index on, if the first of them gives an entry, if it has a fault, and if there is none
+  -- the values from an index on, if the first of them gives an entry, if it has a fault, and if no value is left
   pub judged_from-more : (vs : List Value) (i : ℕ) (v : Value) (kept : List A) (x : A) (out : Result (List A) F) → i < length vs → v ≡ get_or vs i v → judge (i + 1) kept (view v) ≡ Ok x
       → judged_from judge (i + 1) kept (map view (drop i vs)) ≡ out → judged_from judge (i + 1 + 1) (kept ++ x ∷ []) (map view (drop (i + 1) vs)) ≡ out
   judged_from-more vs i v kept x out h at good e =

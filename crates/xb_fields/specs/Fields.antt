@@ -1,4 +1,5 @@
--- Fields of a TOML document, with the first fault: each step gives a value, or a fault with its kind and its location (this project's own).
+-- Fields of a TOML document, with the first fault: each step gives a value, or a fault with its kind and its location
+-- (this project's own).
 use Rattle.std.specs.Prelude.{ℕ, ◌+◌, Bool, List, [], ◌∷◌, ◌++◌, length, Option, Some, None, Result, Ok, Err, ok_or, ℤ, pos, negsuc, nat_le, ◌&&◌, if◌then◌else◌}
 use Rattle.std.specs.List.{list_any, list_all}
 use Rattle.std.specs.Str.{bytes_eq, is_utf8}

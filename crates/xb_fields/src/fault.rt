@@ -5,7 +5,8 @@ use std::alloc::{AllocError, AllocFailed};
 use thiserror::Error;
 use xb_domain::{BadKind, Part};
 
-/// What is wrong with a document. `index` is the position of an entry in its list, from 1, or 0 if the fault is in no list.
+/// What is wrong with a document. `index` is the position of an entry in its list, from 1, or 0 if the fault is in no
+/// list.
 #[derive(Clone, Copy, Debug, PartialEq, Eq)]
 pub struct FieldFault {
     pub kind: BadKind,

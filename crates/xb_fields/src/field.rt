@@ -23,7 +23,8 @@ pub fn keys_listed(listed: &[&str], table: &Table) -> bool
 
 // The same over the keys in the table's order.
 fn all_listed(listed: &[&str], table: &Table) -> bool
-    ensures { result ≡ list_all (λ key. list_any (λ one. bytes_eq (string_bytes key) one.now) listed.now) (keys table.now) }
+    ensures { result ≡ list_all (λ key. list_any (λ one. bytes_eq (string_bytes key) one.now) listed.now)
+        (keys table.now) }
 {
     table.keys().all(|key| is_listed(listed, key.as_str()))
 }

@@ -1,6 +1,7 @@
 -- The configuration that a text gives, or its first fault (this project's own).
-use Rattle.std.specs.Prelude.{◌≡◌, ◌≢◌, ℕ, ◌-◌, ◌/◌, ◌^◌, ◌≤◌, Bool, List, [], ◌∷◌, length, Option, Some, None, Result, Ok, codes, nat_le, nat_lt, ◌==◌, ◌&&◌, ◌||◌, not, if◌then◌else◌, IsTrue}
+use Rattle.std.specs.Prelude.{◌≡◌, ◌≢◌, ℕ, ◌-◌, ◌/◌, ◌^◌, ◌≤◌, Bool, List, [], ◌∷◌, length, Option, Some, None, Result, Ok, codes, nat_le, ◌==◌, ◌&&◌, ◌||◌, not, if◌then◌else◌, IsTrue}
 use Rattle.std.specs.List.{list_any, All, AllPairs}
+use Rattle.bgp_attr.specs.Rules.{is_host}
 use Rattle.toml.specs.Data.{Data, Members}
 use Rattle.xb_domain.specs.declared.bad.BadKind.TheVariants.{Key, Range, Double}
 use Rattle.xb_domain.specs.declared.bad.Part.TheVariants.{Top, Speaker, Network, Peer, Cost}
@@ -28,13 +29,13 @@ pub record Config : Type 0 where
 abbrev pub is_as : ℕ → Bool
 is_as n = is_between 1 MAX_AS n
 
--- a hold time in seconds: 0, which is none, or at least MIN_HOLD (RFC 4271, section 4.2)
+-- a hold time in seconds: 0, for no timer, or at least MIN_HOLD (RFC 4271, section 4.2)
 abbrev pub is_hold : ℕ → Bool
 is_hold n = n == 0 || nat_le MIN_HOLD n && nat_le n MAX_HOLD
 
--- an address of a host: its first octet is not 0, not 127, and below 224
+-- an address that may be a host's, by its first octet, as for the next hops of routes
 abbrev pub is_host_address : ℕ → Bool
-is_host_address a = let first = a / 2 ^ 24 in not (first == 0) && not (first == 127) && nat_lt first 224
+is_host_address a = is_host (a / 2 ^ 24)
 
 -- prefixes with the same address and the same length
 abbrev pub same_prefix : Prefix → Prefix → Bool

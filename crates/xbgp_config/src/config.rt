@@ -16,7 +16,9 @@ use std::alloc::Global;
 use std::marker::Model;
 use toml::Table;
 use xb_domain::{BadKind, Side};
-use xb_fields::{FieldError, FieldFault, Location, keys_listed, optional_list, read_document, required};
+use xb_fields::{
+    FieldError, FieldFault, Location, keys_listed, optional_list, read_document, required,
+};
 
 /// An accepted configuration: `local` is the speaker as a side, `hold` its hold time in seconds, 0 for none, and
 /// `local_pref` the degree of preference of routes from external peers and of its own networks.

@@ -21,6 +21,9 @@ mod speaker;
 mod texts;
 
 pub use config::{Config, read_config};
-pub use limits::{DEFAULT_HOLD, DEFAULT_LOCAL_PREF, MAX_AS, MAX_COSTS, MAX_HOLD, MAX_NETWORKS, MAX_PEERS, MIN_HOLD};
+pub use limits::{
+    DEFAULT_HOLD, DEFAULT_LOCAL_PREF, MAX_AS, MAX_COSTS, MAX_HOLD, MAX_NETWORKS, MAX_PEERS,
+    MIN_HOLD,
+};
 pub use lists::{CostEntry, Costs, Networks, PeerEntry, Peers};
 pub use xb_fields::{FieldError as ConfigError, FieldFault as ConfigFault};

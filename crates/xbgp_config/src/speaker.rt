@@ -12,7 +12,10 @@ use crate::texts::{required_host, required_id};
 use std::alloc::Global;
 use toml::{Table, Value};
 use xb_domain::{BadKind, Part, Side};
-use xb_fields::{FieldError, FieldFault, Location, number, optional_list, optional_number, required_number, table_with, value_at};
+use xb_fields::{
+    FieldError, FieldFault, Location, number, optional_list, optional_number, required_number,
+    table_with, value_at,
+};
 
 // The speaker's table, of which there is one.
 const SPEAKER: Location = Location {

@@ -5,16 +5,17 @@ ghost use Rattle.xb_values.specs.Readers.{read_dotted};
 ghost use Rattle.xb_fields.specs.Fields.{required, text};
 ghost use Rattle.xbgp_config.specs.Configs.{is_host_address, host_text, id_text};
 
+use bgp_attr::is_host;
 use toml::Table;
 use xb_domain::BadKind;
 use xb_fields::{FieldFault, Location, required_text};
 use xb_values::read_dotted;
 
+// Whether an address may be a host's, by its first octet.
 fn is_host_address(address: u32) -> bool
     ensures { result ≡ is_host_address address }
 {
-    let first = address / 0x0100_0000;
-    first != 0 && first != 127 && first < 224
+    is_host((address / 0x0100_0000) as u8)
 }
 
 fn host_text(text: &[u8]) -> Option<u32>

@@ -19,7 +19,7 @@ module _ {E : Type 0} (name : E → List ℕ) (s : Bor (List ℕ)) (met : List (
   list_any-map h [] = refl
   list_any-map h (x ∷ xs) = ap (λ b. bytes_eq s.now (h x) || b) (list_any-map h xs)
 
-  -- a name is among those that were met exactly where an entry has it
+  -- a name is among those that were met exactly if an entry has it
   pub list_any-names : list_any (λ k. bytes_eq s.now k.now) met ≡ list_any (λ e. bytes_eq s.now (name e)) es
   list_any-names = list_any-map (λ k. k.now) met ∙ ap (list_any (bytes_eq s.now)) same ∙ sym (list_any-map name es)
 

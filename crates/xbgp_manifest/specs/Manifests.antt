@@ -64,8 +64,8 @@ entry_shapes maps = map (λ m. m.shape) maps
 abbrev pub room_of : List MapEntry → ℕ
 room_of maps = sum_by (λ s. s.entries * entry_size s) (entry_shapes maps)
 
--- what every accepted program keeps: its ranges, that the loader takes its code with the helpers of its point, and that the code
--- calls no other helper
+-- what every accepted program keeps: its ranges, that the loader takes its code with the helpers of its point, and
+-- that the code calls no other helper
 pub record IsProgram (p : ProgramEntry) : Type 0 where
   pub name : IsTrue (is_name p.name)
   pub fuel : IsTrue (is_fuel p.fuel)

@@ -6,8 +6,8 @@ use thiserror::Error;
 use xb_domain::{BadKind, Part};
 use xb_fields::{FieldError, FieldFault};
 
-/// What is wrong with a manifest. `index` is the position of an entry in its list, from 1, or 0 if the fault is in no list.
-/// `slot` is the slot of a program's code, from 0; it is also 0 if the fault is not in code, which the kind tells.
+/// What is wrong with a manifest. `index` is the position of an entry in its list, from 1, or 0 if the fault is in no
+/// list. `slot` is the slot of a program's code, from 0; it is also 0 if the fault is not in code, as its kind says.
 #[derive(Clone, Copy, Debug, PartialEq, Eq)]
 pub struct ManifestFault {
     pub kind: BadKind,

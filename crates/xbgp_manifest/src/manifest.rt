@@ -17,7 +17,9 @@ use std::alloc::{AllocError, Global};
 use std::marker::Model;
 use toml::Table;
 use xb_domain::BadKind;
-use xb_fields::{FieldError, FieldFault, Location, keys_listed, optional_list, read_document, required_number};
+use xb_fields::{
+    FieldError, FieldFault, Location, keys_listed, optional_list, read_document, required_number,
+};
 use xbgp_maps::limits::{MAX_MAPS, MAX_ROOM};
 
 /// An accepted manifest: the maps that programs share, and the programs, in the order of the text.

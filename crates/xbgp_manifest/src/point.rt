@@ -42,7 +42,7 @@ pub(crate) fn helpers_at(point: Point) -> HelperSet
     ensures { (n : ℕ) → allows result n ≡ helper_allowed point n }
 {
     let mut helpers = HelperSet::none();
-    for number in 1..=LAST_HELPER {
+    for number in 1..LAST_HELPER + 1 {
         if helper_allowed(point, number) {
             helpers = helpers.with(number);
         }
