@@ -9,7 +9,7 @@ use Rattle.replay_log.specs.declared.reader.Got.TheVariants.{Line, End, LineTooL
 
 -- the last line without its end, the offset of the octets after it, and those of them that were read ahead
 pub record Reading : Type 0 where
-  pub next_line : List ℕ
+  pub line : List ℕ
   pub at : ℕ
   pub ahead : List ℕ
 

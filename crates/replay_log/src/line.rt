@@ -87,7 +87,7 @@ fn octets_peer(arguments: &[u8], peers: u32, octets: &mut Buf) -> Option<u32>
     requires short { length arguments.now ≤ LINE_LIMIT }
     requires room { OCTETS_LIMIT ≤ octets.old.capacity }
     ensures event { (now : ℕ) → option_map (λ p. octets_in p octets.new.octets) result
-        ≡ event_of_words peers now (codes "in" ∷ parts 32 arguments.now) }
+        ≡ event_of_words peers now (codes "in" ∷ split_on 32 arguments.now) }
     ensures capacity { octets.new.capacity ≡ octets.old.capacity }
 {
     let (peer, digits) = split_once(arguments, b' ')?;

@@ -58,9 +58,9 @@ unfolding map_shape
 map_shape-ranges at ms s e =
     let k = bind-ok (required at (codes "key") (number at 1 MAX_KEY) ms) _ s e in
     let v = bind-ok (required at (codes "value") (number at 1 MAX_VALUE) ms) _ s k.2 in
-    let n = bind-ok (required at (codes "judged_entries") (number at 1 MAX_ENTRIES) ms) _ s v.2 in
-    let kept : MapShape = record { key = k.0; value = v.0; judged_entries = n.0 } in
-    rw (← ok-injective kept s n.2) (required_number-ok at (codes "key") 1 MAX_KEY ms k.0 k.1, required_number-ok at (codes "value") 1 MAX_VALUE ms v.0 v.1, required_number-ok at (codes "judged_entries") 1 65536 ms n.0 n.1)
+    let n = bind-ok (required at (codes "entries") (number at 1 MAX_ENTRIES) ms) _ s v.2 in
+    let kept : MapShape = record { key = k.0; value = v.0; entries = n.0 } in
+    rw (← ok-injective kept s n.2) (required_number-ok at (codes "key") 1 MAX_KEY ms k.0 k.1, required_number-ok at (codes "value") 1 MAX_VALUE ms v.0 v.1, required_number-ok at (codes "entries") 1 65536 ms n.0 n.1)
 
 map_fields-ranges : (i : ℕ) (d : Data) (m : MapEntry) → map_fields i d ≡ Ok m → IsTrue (is_name m.name) × ShapeKept m.shape
 unfolding map_fields

@@ -16,7 +16,7 @@ use toml::{Table, Value};
 use xb_domain::{BadKind, Part};
 use xb_fields::{FieldError, FieldFault, Location, required_number, table_with};
 use xbgp_maps::MapShape;
-use xbgp_maps::limits::{MAX_ENTRIES, MAX_KEY, MAX_VALUE};
+use xbgp_maps::limits::{MAX_ENTRIES, MAX_KEY, MAX_MAPS, MAX_VALUE};
 
 /// What a map's table says.
 #[derive(Clone, Copy)]
@@ -63,11 +63,8 @@ pub(crate) fn read_maps(alloc: Global, values: &[Value]) -> Result<MapEntries, F
         let index = i as u32 + 1;
         let fields = map_fields(index, value)?;
         if !names.insert(fields.name)? {
-            return Err(
-                Location::new(Part::Map, index)
-                    .fault(BadKind::Double)
-                    .into(),
-            );
+            let at = Location::new(Part::Map, index);
+            return Err(at.fault(BadKind::Double).into());
         }
         items.push(MapEntry {
             name: Name::of(alloc, fields.name)?,
@@ -88,7 +85,7 @@ fn room_of_map(shape: MapShape) -> u64
 
 /// The octets of the keys and values of maps that have all their entries.
 pub(crate) fn room_of(maps: &[MapEntry]) -> u64
-    requires { length maps.now ≤ 16 }
+    requires { length maps.now ≤ MAX_MAPS }
     ensures { result ≡ room_of maps.now }
 {
     let mut room = 0;

@@ -78,11 +78,8 @@ pub(crate) fn read_programs(
         let index = i as u32 + 1;
         let fields = program_fields(alloc, index, value)?;
         if !names.insert(fields.name)? {
-            return Err(
-                Location::new(Part::Program, index)
-                    .fault(BadKind::Double)
-                    .into(),
-            );
+            let at = Location::new(Part::Program, index);
+            return Err(at.fault(BadKind::Double).into());
         }
         items.push(load_program(alloc, index, &fields)?)?;
     }

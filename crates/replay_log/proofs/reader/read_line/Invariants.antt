@@ -10,7 +10,7 @@ abbrev pub invariant-octets : goal.invariant-octets
 invariant-octets g l = record {
   held : g.S.Shelf.held l.shelf ≡ g.S.Shelf.held l.fn.shelf;
   faults : g.S.Shelf.faults l.shelf ≡ g.S.Shelf.faults l.fn.shelf;
-  left : (log : List ℕ) → told_text (g.S.Shelf.held l.fn.shelf) l.name ≡ Some log → left_at l.at l.line.octets log ≡ next_at log l.start;
+  left : (log : List ℕ) → told_file (g.S.Shelf.held l.fn.shelf) l.name ≡ Some log → left_at l.at l.line.octets log ≡ next_at log l.start;
   moved : l.at ≡ l.start + length l.line.octets;
   within : l.at ≤ LOG_LIMIT;
   short : length l.line.octets ≤ LINE_LIMIT;

@@ -3,7 +3,8 @@ use Rattle.std.specs.Prelude.{Err}
 use Rattle.std.specs.List.{list_any}
 use Rattle.std.specs.Str.{bytes_eq}
 use Rattle.toml.specs.View.{view}
-use Rattle.xb_fields.specs.Fields.{judged_entries}
+use Rattle.xb_domain.specs.declared.bad.BadKind.TheVariants.{Double}
+use Rattle.xb_fields.specs.Fields.{judged_entries, fault_at}
 use Rattle.xb_fields.proofs.StepLemmas.{judged_from-more, judged_from-bad}
 use Rattle.xbgp_manifest.specs.declared.entries.MapEntry.{MapEntry}
 use Rattle.xbgp_manifest.specs.Views.{map_view}
@@ -23,7 +24,7 @@ returns-then-not-branch c =
     let doubled = sym (list_any-names (λ m. m.name) c.in_ok-fields.fields.name c.loop-i.names.keys c.loop-i.items.items c.loop-i.invariant.names) ∙ met in
     rw c.into.ensures
     (judged_from-bad map_entry c.args.values.now c.loop-i.i c.index-values-i.result c.loop-i.items.items c.fault.result _ (omega arith) c.index-values-i.is
-    (map_entry-double (c.loop-i.i + 1) c.loop-i.items.items (view c.index-values-i.result) entry (sym c.in_ok-fields.ensures) doubled ∙ ap Err (sym c.fault.ensures))
+    (map_entry-double (c.loop-i.i + 1) c.loop-i.items.items (view c.index-values-i.result) entry (sym c.in_ok-fields.ensures) doubled ∙ ap Err (sym (c.fault.ensures ∙ ap (λ at. fault_at at Double) c.new-at.ensures)))
     c.loop-i.invariant.rest)
 
 pub loop-i-preserved : goal.loop-i-preserved

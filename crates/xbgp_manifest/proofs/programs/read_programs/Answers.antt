@@ -3,7 +3,8 @@ use Rattle.std.specs.Prelude.{Err}
 use Rattle.std.specs.List.{list_any}
 use Rattle.std.specs.Str.{bytes_eq}
 use Rattle.toml.specs.View.{view}
-use Rattle.xb_fields.specs.Fields.{judged_entries}
+use Rattle.xb_domain.specs.declared.bad.BadKind.TheVariants.{Double}
+use Rattle.xb_fields.specs.Fields.{judged_entries, fault_at}
 use Rattle.xb_fields.proofs.OutcomeLemmas.{gives-error}
 use Rattle.xb_fields.proofs.StepLemmas.{judged_from-more, judged_from-bad}
 use Rattle.xbgp_manifest.specs.declared.entries.ProgramEntry.{ProgramEntry}
@@ -36,7 +37,7 @@ returns-then-not-branch c =
     rw c.into.ensures
     (judged_from-bad program_entry c.args.values.now c.loop-i.i c.index-values-i.result c.loop-i.items.items (in_slot 0 c.fault.result) _ (omega arith) c.index-values-i.is
     (program_entry-bad (c.loop-i.i + 1) c.loop-i.items.items (view c.index-values-i.result) c.fault.result
-    (named_program-double (c.loop-i.i + 1) c.loop-i.items.items (view c.index-values-i.result) fields c.in_ok-fields.ensures doubled ∙ ap Err (sym c.fault.ensures)))
+    (named_program-double (c.loop-i.i + 1) c.loop-i.items.items (view c.index-values-i.result) fields c.in_ok-fields.ensures doubled ∙ ap Err (sym (c.fault.ensures ∙ ap (λ at. fault_at at Double) c.new-at.ensures))))
     c.loop-i.invariant.rest)
 
 pub returns-in_err-load_program : goal.returns-in_err-load_program
