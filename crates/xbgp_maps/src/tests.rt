@@ -23,7 +23,7 @@ fn opened(alloc: Global, entries: u32) -> Result<Maps, AllocError>
     Ok(maps)
 }
 
-#[tactic(auto, using(crate::proofs::Shapes::there))]
+#[tactic(auto, using(crate::proofs::MappingsLemmas::map_is_there))]
 fn put(maps: &mut Maps, key: u8, value: u8) -> Put
     requires open { IsSome maps.old.began }
     requires keys { map (λ s. s.key) (shapes_of maps.old.maps) ≡ 1 ∷ [] }
@@ -35,7 +35,7 @@ fn put(maps: &mut Maps, key: u8, value: u8) -> Put
     maps.put(0, &[key], &[value])
 }
 
-#[tactic(auto, using(crate::proofs::Shapes::there))]
+#[tactic(auto, using(crate::proofs::MappingsLemmas::map_is_there))]
 fn remove(maps: &mut Maps, key: u8) -> Remove
     requires open { IsSome maps.old.began }
     requires keys { map (λ s. s.key) (shapes_of maps.old.maps) ≡ 1 ∷ [] }
@@ -48,7 +48,7 @@ fn remove(maps: &mut Maps, key: u8) -> Remove
 }
 
 // The first octet of the value at a key.
-#[tactic(auto, using(crate::proofs::Shapes::there))]
+#[tactic(auto, using(crate::proofs::MappingsLemmas::map_is_there))]
 fn value(maps: &Maps, key: u8) -> Option<u8>
     requires keys { map (λ s. s.key) (shapes_of maps.now.maps) ≡ 1 ∷ [] }
     requires values { map (λ s. s.value) (shapes_of maps.now.maps) ≡ 1 ∷ [] }

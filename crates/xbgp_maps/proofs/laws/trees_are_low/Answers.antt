@@ -1,4 +1,4 @@
-use Rattle.xbgp_maps.proofs.Heights.{few_levels}
+use Rattle.xbgp_maps.proofs.HeightLemmas.{few_levels}
 use Rattle.xbgp_maps.proofs.laws.trees_are_low.Goals as goal
 
 pub returns : goal.returns

@@ -2,7 +2,7 @@ use Rattle.std.proofs.Common.{◌<◌, refl, arith}
 use Rattle.std.proofs.lemmas.Grind.{common_steps}
 use Rattle.xbgp_maps.specs.declared.node.Tree.TheViews.{Fork}
 use Rattle.xbgp_maps.specs.Trees.{height_of}
-use Rattle.xbgp_maps.proofs.Heights.{low_at_left, leans_right_turned}
+use Rattle.xbgp_maps.proofs.HeightLemmas.{low_at_left, leans_right_turned}
 use Rattle.xbgp_maps.proofs.node.lean_right.Goals as goal
 
 pub turn_right-requires-clause-left : goal.turn_right-requires-clause-left

@@ -2,8 +2,8 @@ use Rattle.std.proofs.Common.{rules, ◌≡◌, length, None, sym, ◌∙◌}
 use Rattle.xbgp_maps.specs.Mappings.{Mapping, value_in}
 use Rattle.xbgp_maps.specs.Tables.{IsBlank}
 use Rattle.xbgp_maps.specs.Trees.{entries_of}
-use Rattle.xbgp_maps.proofs.Heights.{is_low}
-use Rattle.xbgp_maps.proofs.Tables.{table_new, all_last}
+use Rattle.xbgp_maps.proofs.HeightLemmas.{is_low}
+use Rattle.xbgp_maps.proofs.TablesLemmas.{table_new, all_last}
 use Rattle.xbgp_maps.proofs.table.Table.insert.Goals as goal
 
 pub filled-requires-clause-key : goal.filled-requires-clause-key

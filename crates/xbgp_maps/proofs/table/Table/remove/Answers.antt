@@ -2,8 +2,8 @@ use Rattle.std.proofs.Common.{rules, map, Some}
 use Rattle.std.proofs.lemmas.List.{length-map}
 use Rattle.xbgp_maps.specs.Mappings.{Mapping}
 use Rattle.xbgp_maps.specs.Trees.{entries_of, IsTaken}
-use Rattle.xbgp_maps.proofs.Heights.{is_low}
-use Rattle.xbgp_maps.proofs.Tables.{table_gone, table_absent, spare_below}
+use Rattle.xbgp_maps.proofs.HeightLemmas.{is_low}
+use Rattle.xbgp_maps.proofs.TablesLemmas.{table_gone, table_absent, spare_below}
 use Rattle.xbgp_maps.proofs.table.Table.remove.Goals as goal
 
 pub keep-requires : goal.keep-requires

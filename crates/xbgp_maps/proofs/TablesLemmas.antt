@@ -1,14 +1,16 @@
 -- A table stays one when a value is written over, a new key is entered or a key is taken out.
-use Rattle.std.proofs.Common.{◌≡◌, ℕ, suc, ◌+◌, ◌<◌, ◌≤◌, List, [], ◌∷◌, ◌++◌, length, map, Option, Some, None, IsSome, refl, sym, ◌∙◌, ap, subst, arith, length-append}
+use Rattle.std.proofs.Common.{◌≡◌, ℕ, Bool, true, false, if◌then◌else◌, suc, ◌+◌, ◌<◌, ◌≤◌, List, [], ◌∷◌, ◌++◌, length, map, Option, Some, None, IsSome, IfSome, refl, sym, ◌∙◌, ap, subst, arith, length-append}
 use Rattle.std.specs.List.{AllByRecursion}
 use Rattle.std.specs.List.Sorted.{IsStrictlySortedBy}
 use Rattle.std.proofs.lemmas.List.{length-map, map-append}
 use Rattle.std.proofs.lemmas.Cmp.{nat_list_cmp_total}
 use Rattle.std.proofs.lemmas.Map.Lookups.{exact_bytes}
-use Rattle.xb_words.specs.Table.{with_value, without}
+use Rattle.std.specs.Option.{option_map}
+use Rattle.std.specs.Ordering.{is_lt}
+use Rattle.xb_words.specs.Table.{with_value, without, behind, entry_after, first}
 use Rattle.xbgp_maps.specs.declared.node.Node.{Node}
 use Rattle.xbgp_maps.specs.declared.shape.MapShape.{MapShape}
-use Rattle.xbgp_maps.specs.Mappings.{Mapping, IsMapping, key_cmp, value_in, put_in, taken_from}
+use Rattle.xbgp_maps.specs.Mappings.{Mapping, HasWidths, IsMapping, key_cmp, value_in, put_in, taken_from}
 use Rattle.xbgp_maps.specs.Tables.{IsTable, IsBlank}
 use Rattle.xbgp_maps.specs.Trees.{HaveWidth, IsAlone}
 use Rattle.xb_words.proofs.Ends.{all_left, all_right, all_push}
@@ -16,9 +18,6 @@ use Rattle.xb_words.proofs.Entries.{all_with, all_without, all_over, found, leng
 
 abbrev Entries : Type 0
 Entries = List (List ℕ × List ℕ)
-
-abbrev HasWidths : MapShape → List ℕ × List ℕ → Type 0
-HasWidths shape e = (length e.0 ≡ shape.key) × (length e.1 ≡ shape.value)
 
 -- what holds of every spare node, and of the last of them
 all_front : {A B : Type 0} (P : B → Type 0) (f : A → B) (xs : List A) (y : A) → AllByRecursion P (map f (xs ++ y ∷ [])) → AllByRecursion P (map f xs)
@@ -114,3 +113,31 @@ table_empty shape spare room count enough blank = record {
   capacity = enough;
   blank = blank;
 }
+
+all_first : {A : Type 0} (P : A → Type 0) (xs : List A) (x : A) → AllByRecursion P xs → first xs ≡ Some x → P x
+all_first P [] x all is = absurd (cc is)
+all_first P (y ∷ ys) x all is = let same : y ≡ x = cc is in subst P same all.0
+
+all_after : (P : List ℕ × List ℕ → Type 0) (es : Entries) (after : Option (List ℕ)) → AllByRecursion P es → AllByRecursion P (behind key_cmp es after)
+all_after P es None all = all
+all_after P es (Some k) all = by es all
+  where
+    by : (es : Entries) → AllByRecursion P es → AllByRecursion P (behind key_cmp es (Some k))
+    by [] all = tt
+    by (e ∷ es) all = elim (is_lt (key_cmp k e.0)) as (λ b. AllByRecursion P (if b then e ∷ behind key_cmp es (Some k) else behind key_cmp es (Some k))) [
+      | true ↦ (all.0, by es all.1)
+      | false ↦ by es all.1
+    ]
+
+-- an entry of a walk has the widths of its map
+pub entry_widths : {B : Type 0} (now : B → List ℕ × List ℕ) (m : Mapping) (after : Option (List ℕ)) (o : Option B) → IsMapping m
+    → option_map now o ≡ entry_after key_cmp m.entries after → IfSome o (λ b. HasWidths m.shape (now b))
+entry_widths now m after None kept is = tt
+entry_widths now m after (Some b) kept is =
+    all_first (HasWidths m.shape) (behind key_cmp m.entries after) (now b) (all_after (HasWidths m.shape) m.entries after kept.widths) (sym is)
+
+-- a value that is looked up has the width of its map
+pub value_width : {B : Type 0} (now : B → List ℕ) (m : Mapping) (k : List ℕ) (o : Option B) → IsMapping m → option_map now o ≡ value_in m k
+    → IfSome o (λ b. length (now b) ≡ m.shape.value)
+value_width now m k None kept is = tt
+value_width now m k (Some b) kept is = (found key_cmp (HasWidths m.shape) m.entries k (now b) kept.widths (sym is)).2.1

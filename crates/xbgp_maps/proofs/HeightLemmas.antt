@@ -3,11 +3,12 @@ use Rattle.std.proofs.Common.{◌≡◌, ℕ, zero, suc, ◌+◌, ◌^◌, ◌<�
 use Rattle.std.proofs.lemmas.Bool.{cases_lt}
 use Rattle.std.proofs.lemmas.Nat.{pow_below}
 use Rattle.std.proofs.Math.Nat.{two-pow-succ}
+use Rattle.xbgp_maps.specs.declared.limits.TheConstants.{MAX_ENTRIES, MAX_LEVELS}
 use Rattle.xbgp_maps.specs.declared.node.Tree.{Tree, Leaf, Fork'}
 use Rattle.xbgp_maps.specs.declared.node.Node.{Node}
 use Rattle.xbgp_maps.specs.Trees.{entries_of, height_of, left_of, right_of, IsLevel, IsBalanced, IsLow, IsTurnedRight, IsTurnedLeft, LeansLeft, LeansRight}
 
--- a tree is balanced where its sides are and its height is as they say
+-- a tree is balanced if its sides are and its height is level with theirs
 pub by_sides : (t : Tree) → IsLevel (height_of t) (height_of (left_of t)) (height_of (right_of t)) → IsBalanced (left_of t) → IsBalanced (right_of t) → IsBalanced t
 by_sides Leaf level left right = tt
 by_sides (Fork' p key value height l r) level left right = (level, left, right)
@@ -118,7 +119,7 @@ leans_right_turned t n u some b order turned l r h =
       is_left = rw (l, turned.left) (left_is (left_of t) (left_is t b));
     }
 
--- a tree of twice so many levels has at least 2 to their number of entries, less one
+-- a tree of 2 k levels has at least 2 to the k entries, less one
 pub many : (k : ℕ) (t : Tree) → IsBalanced t → k + k ≤ height_of t → 2 ^ k ≤ length (entries_of t) + 1
 many zero t b high = omega arith
 many (suc k) Leaf b high = absurd (omega (arith, high))
@@ -137,8 +138,8 @@ is_low t n b few small =
       | inr low ↦ low
     ]
 
--- 65,536 entries stand on at most 33 levels
-pub few_levels : (t : Tree) → IsBalanced t → length (entries_of t) ≤ 65536 → height_of t ≤ 33
+-- a tree of as many entries as a map may have has few levels
+pub few_levels : (t : Tree) → IsBalanced t → length (entries_of t) ≤ MAX_ENTRIES → height_of t ≤ MAX_LEVELS
 few_levels t b few =
     elim (cases_lt 33 (height_of t)) [
       | inl high ↦ absurd (omega (arith, few, many 17 t b (omega (arith, high))))
