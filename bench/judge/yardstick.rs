@@ -3,8 +3,7 @@
 #[path = "../common/reading.rs"]
 mod reading;
 
-use reading::{push_hex, run, Fault, Messages, Output, Prefixes, Update, UPDATE};
-use std::io::Write;
+use reading::{push_decimal, push_hex, run, Fault, Messages, Output, Prefixes, Update, UPDATE};
 use std::process::ExitCode;
 
 const ORIGIN: u8 = 1;
@@ -15,7 +14,7 @@ const LOCAL_PREF: u8 = 5;
 const ATOMIC_AGGREGATE: u8 = 6;
 const AGGREGATOR: u8 = 7;
 
-/// The attributes that each announcement has, and the data of the notification where one is missing.
+/// The attributes that each announcement has, and the data of the notification if one is missing.
 const MANDATORY: [[u8; 1]; 3] = [[ORIGIN], [AS_PATH], [NEXT_HOP]];
 
 /// The subcodes of an UPDATE message error.
@@ -52,7 +51,7 @@ struct Attribute<'a> {
     raw: &'a [u8],
 }
 
-/// Takes the first attribute off the section, if it doesn't run past the section.
+/// Removes the first attribute from the section, if it doesn't run past the section.
 fn take_attribute<'a>(section: &mut &'a [u8]) -> Option<Attribute<'a>> {
     let [flags, code] = *section.first_chunk()?;
     let (head, len) = if flags & 0x10 == 0 {
@@ -121,7 +120,7 @@ impl Codes {
         self.0[usize::from(code / 64)] >> (code % 64) & 1 != 0
     }
 
-    /// Adds the code; false where it is there already.
+    /// Adds the code; false if it is there already.
     fn insert(&mut self, code: u8) -> bool {
         let is_new = !self.contains(code);
         self.0[usize::from(code / 64)] |= 1 << (code % 64);
@@ -175,26 +174,31 @@ fn judge(body: &[u8]) -> Result<(), Notice<'_>> {
     judge_prefixes(update.nlri)
 }
 
+fn push_verdict(text: &mut Vec<u8>, body: &[u8]) {
+    match judge(body) {
+        Ok(()) => text.extend_from_slice(b"clean"),
+        Err(Notice { subcode, data }) => {
+            text.extend_from_slice(b"notice 3 ");
+            push_decimal(text, subcode as u64);
+            text.push(b' ');
+            push_hex(text, data);
+        }
+    }
+}
+
 fn print_judged(stream: &[u8], out: &mut Output) -> Result<(), Fault> {
     // A stream that is refused has no other line.
     Messages::new(stream).try_for_each(|message| message.map(drop))?;
-    let mut line = Vec::new();
     for message in Messages::new(stream) {
         let message = message?;
-        if message.kind != UPDATE {
-            writeln!(out, "{} other", message.at)?;
-            continue;
+        push_decimal(&mut out.text, message.at as u64);
+        out.text.push(b' ');
+        if message.kind == UPDATE {
+            push_verdict(&mut out.text, message.body);
+        } else {
+            out.text.extend_from_slice(b"other");
         }
-        match judge(message.body) {
-            Ok(()) => writeln!(out, "{} clean", message.at)?,
-            Err(Notice { subcode, data }) => {
-                line.clear();
-                push_hex(&mut line, data);
-                line.push(b'\n');
-                write!(out, "{} notice 3 {} ", message.at, subcode as u8)?;
-                out.write_all(&line)?;
-            }
-        }
+        out.end_line()?;
     }
     Ok(())
 }

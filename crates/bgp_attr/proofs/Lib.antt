@@ -1,3 +1,3 @@
-pub mod Segments
-pub mod Sizes
-pub mod Walking
+pub mod AttributesLemmas
+pub mod PathsLemmas
+pub mod WalksLemmas

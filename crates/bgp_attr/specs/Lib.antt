@@ -2,5 +2,5 @@ pub mod Attributes
 pub mod Paths
 pub mod Routes
 pub mod Rules
-pub mod Shown
+pub mod Views
 pub mod Walks

@@ -1,49 +1,44 @@
--- What an attribute must be (RFC 4271, 5 and 6.3), with AS numbers of w octets.
+-- What an attribute must be (RFC 4271, sections 5 and 6.3), with AS numbers of w octets.
 use Rattle.std.specs.Prelude.{ℕ, ◌+◌, Bool, true, List, length, slice_index, Option, Some, None, nat_lt, nat_le, ◌==◌, ◌&&◌, ◌||◌, not, bit_and, if◌then◌else◌}
+use Rattle.bgp_attr.specs.declared.codes.TheConstants.{ORIGIN, AS_PATH, NEXT_HOP, MULTI_EXIT_DISC, LOCAL_PREF, ATOMIC_AGGREGATE, AGGREGATOR}
+use Rattle.bgp_attr.specs.declared.flags.TheConstants.{OPTIONAL, WELL_KNOWN, OPTIONAL_TRANSITIVE, PARTIAL_TRANSITIVE}
+use Rattle.bgp_attr.specs.declared.rule.TheConstants.{INCOMPLETE, FOUR_OCTETS, THIS_NETWORK, LOOPBACK, MULTICAST}
 use Rattle.bgp_attr.specs.declared.rule.AttrFault.{AttrFault}
 use Rattle.bgp_attr.specs.declared.rule.AttrFault.TheVariants.{Unrecognized, Flags, Length, Origin, NextHop, Path}
 use Rattle.bgp_attr.specs.Routes.{kept_flags}
 use Rattle.bgp_attr.specs.Paths.{path_ok}
 
--- the flags that a known code has: well-known 0x40, optional 0x80, both 0xC0; AGGREGATOR may be partial
-abbrev pub right_flags : ℕ → ℕ → Bool
-right_flags code flags =
-    let f = kept_flags flags in
-    if code == 4 then f == 128
-    else if code == 7 then f == 192 || f == 224
-    else f == 64
-
--- the length that a known code has
-abbrev pub right_length : ℕ → ℕ → ℕ → Bool
-right_length w code n =
-    if code == 1 then n == 1
-    else if code == 2 then true
-    else if code == 6 then n == 0
-    else if code == 7 then n == w + 4
-    else n == 4
-
--- an address that may stand as a next hop: its first octet is none of 0, 127, 224 to 255
-abbrev pub is_host : ℕ → Bool
-is_host first = not (first == 0) && not (first == 127) && nat_lt first 224
-
--- what a known code's value must be: an ORIGIN of 0 to 2, segments, the address of a host
-abbrev pub value_fault : ℕ → ℕ → List ℕ → Option AttrFault
-value_fault w code value =
-    if code == 1 && nat_lt 2 (slice_index value 0) then Some Origin
-    else if code == 2 && not (path_ok w value) then Some Path
-    else if code == 3 && not (is_host (slice_index value 0)) then Some NextHop
-    else None
-
--- the codes 1 to 7 are known
+-- the codes that have a row below: 1 to 7
 abbrev pub is_known : ℕ → Bool
-is_known code = nat_le 1 code && nat_le code 7
+is_known code = nat_le ORIGIN code && nat_le code AGGREGATOR
 
--- the first fault of one attribute: its flags, its length, its value; an unknown code must be optional
+-- an address may be a next hop: its first octet is not 0, 127, or 224 to 255
+abbrev pub is_host : ℕ → Bool
+is_host first = not (first == THIS_NETWORK) && not (first == LOOPBACK) && nat_lt first MULTICAST
+
+-- a fault if a test holds
+abbrev pub fault_if : Bool → AttrFault → Option AttrFault
+fault_if bad fault = if bad then Some fault else None
+
+-- the first fault by a row: of the flags, else of the length, else of the value
+abbrev pub row_fault : Bool → Bool → Option AttrFault → Option AttrFault
+row_fault flags_fit length_fits value =
+    if not flags_fit then Some Flags else if not length_fits then Some Length else value
+
+-- The first fault of one attribute, a row for each known code with its flags, its length and what its value must be.
+-- AGGREGATOR alone may be partial. An attribute of another code must be optional.
 unfoldable pub attr_fault : ℕ → ℕ → ℕ → List ℕ → Option AttrFault
 attr_fault w code flags value =
-    if is_known code then
-    (if not (right_flags code flags) then Some Flags
-    else if not (right_length w code (length value)) then Some Length
-    else value_fault w code value)
-    else if bit_and flags 128 == 0 then Some Unrecognized
-    else None
+    let kept = kept_flags flags in
+    let partial = kept == PARTIAL_TRANSITIVE in
+    let well_known = kept == WELL_KNOWN in
+    let len = length value in
+    let first = slice_index value 0 in
+    if code == ORIGIN then row_fault well_known (len == 1) (fault_if (nat_lt INCOMPLETE first) Origin)
+    else if code == AS_PATH then row_fault well_known true (fault_if (not (path_ok w value)) Path)
+    else if code == NEXT_HOP then row_fault well_known (len == FOUR_OCTETS) (fault_if (not (is_host first)) NextHop)
+    else if code == MULTI_EXIT_DISC then row_fault (kept == OPTIONAL) (len == FOUR_OCTETS) None
+    else if code == LOCAL_PREF then row_fault well_known (len == FOUR_OCTETS) None
+    else if code == ATOMIC_AGGREGATE then row_fault well_known (len == 0) None
+    else if code == AGGREGATOR then row_fault (kept == OPTIONAL_TRANSITIVE || partial) (len == w + FOUR_OCTETS) None
+    else fault_if (bit_and flags OPTIONAL == 0) Unrecognized

@@ -1,17 +1,15 @@
-// The attributes of a section, one after another.
+// The walk over a section: an attribute at a time is split off the octets that are left.
 ghost use Rattle.std.specs.Prelude.{◌≡◌, ◌≤◌, ◌∷◌, [], Some, IfNone, IfSome, length, slice_index};
 ghost use Rattle.bgp_attr.specs.Attributes.{attribute_size, has_long_length, header_size};
-ghost use Rattle.bgp_attr.specs.Walks.{attributes_from, found};
-ghost use Rattle.bgp_attr.specs.Shown.{shown};
+ghost use Rattle.bgp_attr.specs.Walks.{attributes_from, found_attr};
+ghost use Rattle.bgp_attr.specs.Views.{attr_step_view};
 
+use crate::flags::EXTENDED_LENGTH;
 use std::marker::Model;
 use xb_words::u16_at;
 
-// The flag of a length of two octets (RFC 4271, 4.3).
-const EXTENDED_LENGTH: u8 = 0x10;
-
-/// An attribute as received. `raw` is the whole of it, `value` is `raw` without its header, and `at` is the place of
-/// its first octet in the section.
+/// An attribute as received. `raw` is the whole of it, `value` is `raw` without its header, and `at` is the offset of
+/// its first octet in the section, from 0.
 #[derive(Clone, Copy, Debug, PartialEq, Eq)]
 pub struct Attr<'a> {
     pub flags: u8,
@@ -21,7 +19,7 @@ pub struct Attr<'a> {
     pub at: usize,
 }
 
-/// An attribute that passes the end of the section, and the place at which it begins.
+/// An attribute that runs past the end of the section, and the offset at which it begins.
 #[derive(Clone, Copy, Debug, PartialEq, Eq)]
 pub struct Overrun {
     pub at: usize,
@@ -37,9 +35,9 @@ pub struct Attrs<'a> {
 impl<'a> Model for Attrs<'a> {
     ghost use Rattle.std.specs.Prelude.{List, Result, length, ◌+◌, ◌<◌, ◌^◌};
     ghost use Rattle.bgp_attr.specs.declared.attrs.Overrun.{Overrun};
-    ghost use Rattle.bgp_attr.specs.Walks.{attributes_from, Found};
+    ghost use Rattle.bgp_attr.specs.Walks.{attributes_from, FoundAttr};
 
-    ghost Value = { List (Result Found Overrun) };
+    ghost Value = { List (Result FoundAttr Overrun) };
 
     ghost view = { λ a. attributes_from a.at a.rest.now };
 
@@ -58,7 +56,7 @@ fn header_len(flags: u8) -> usize
     if is_extended(flags) { 4 } else { 3 }
 }
 
-// How many octets the attribute at the front has, where it doesn't pass the end.
+// The length of the attribute at the front, header included. None if it runs past the end.
 fn size_of(octets: &[u8]) -> Option<usize>
     ensures size { result ≡ attribute_size octets.now }
     ensures header { IfSome result (λ n. header_size (slice_index octets.now 0) ≤ n) }
@@ -82,7 +80,7 @@ fn size_of(octets: &[u8]) -> Option<usize>
 // The attribute whose octets these are.
 fn attr_at<'a>(raw: &'a [u8], at: usize) -> Attr<'a>
     requires { header_size (slice_index raw.now 0) ≤ length raw.now }
-    ensures { shown (Ok result) ≡ Ok (found at raw.now) }
+    ensures { attr_step_view (Ok result) ≡ Ok (found_attr at raw.now) }
 {
     Attr {
         flags: raw[0],
@@ -94,7 +92,7 @@ fn attr_at<'a>(raw: &'a [u8], at: usize) -> Attr<'a>
 }
 
 impl<'a> Attrs<'a> {
-    /// All attributes of a section, in order.
+    /// A walk over all attributes of a section, in order.
     pub fn new(section: &'a [u8]) -> Attrs<'a>
         ensures { result ≡ attributes_from 0 section.now }
     {
@@ -104,10 +102,10 @@ impl<'a> Attrs<'a> {
         }
     }
 
-    /// The next attribute. After an overrun nothing comes any more.
-    #[tactic(auto, using(crate::proofs::Walking::attributes_some, crate::proofs::Walking::attributes_overrun, crate::proofs::Walking::attributes_nil))]
+    /// The next attribute, or the overrun that ends the walk. None at the end of the section, and after an overrun.
+    #[tactic(auto, using(crate::proofs::WalksLemmas::walk_steps))]
     pub fn next(&mut self) -> Option<Result<Attr<'a>, Overrun>>
-        ensures item { IfSome result (λ r. self.old ≡ shown r ∷ self.new) }
+        ensures item { IfSome result (λ r. self.old ≡ attr_step_view r ∷ self.new) }
         ensures end { IfNone result ((self.old ≡ []) × (self.new ≡ [])) }
     {
         if self.rest.is_empty() {

@@ -1,22 +1,29 @@
-//! Path attributes of an UPDATE (RFC 4271, sections 4.3, 5 and 6.3), read where they stand.
+//! Path attributes of an UPDATE (RFC 4271, sections 4.3, 5 and 6.3), read in place.
 //!
-//! [`Attrs`] walks over a section and hands out each attribute as parts of the section, with the place at which it
-//! begins. [`attr_rule`] says what is wrong with one attribute, and [`path_ok`] whether a value is an AS_PATH.
-//! Nothing is copied and no memory is taken.
+//! A section comes in as a slice. [`Attrs`] walks over it and returns each attribute as parts of that slice, with the
+//! offset at which it begins; it ends at the section's end, or at the first attribute that runs past it. What a known
+//! attribute must be is one table with a row for each code, which [`attr_rule`] applies to a single attribute: first
+//! its flags, then its length, then its value. [`path_ok`] judges the value of an AS_PATH, whose segments bgp_path
+//! reads. Nothing is copied and no memory is taken.
 //!
-//! It stands on xb_words alone. The definitions are in `specs/`: `Attributes` (the grammar of a section), `Walks` (what
-//! a walk gives), `Paths` (the segments of an AS_PATH), `Rules` (the faults of one attribute) and `Routes` (flags and
-//! value by code, and the canonical section), with the octets of an AS number as an argument where it matters.
+//! Whether a section as a whole is valid, with no code twice and none missing, is bgp_check's; routes that can be
+//! edited are xbgp_view's. The words of both are defined here: `specs/Attributes` has the grammar of a section,
+//! `specs/Walks` the walk, `specs/Paths` the segments of an AS_PATH, `specs/Rules` the table, and `specs/Routes` the
+//! neutral route with its canonical section. Definitions take the octets of an AS number as an argument when they
+//! depend on it.
 #![tactic(auto)]
 
 mod attrs;
+pub mod codes;
+pub mod flags;
 pub mod laws;
 mod path;
 mod rule;
+pub mod segments;
 
 pub use attrs::{Attr, Attrs, Overrun};
 pub use path::path_ok;
 pub use rule::{AttrFault, attr_rule};
 
-#[cfg(test)]
-mod tests;
+/// The most octets of a route's canonical section: 4,096, which edits may reach, and 16 for what an export adds.
+pub const MAX_CANONICAL: usize = 4112;

@@ -1,28 +1,34 @@
-// Whether a value is an AS_PATH.
+// Whether a value is an AS_PATH: segments one after another, which fill it.
 ghost use Rattle.std.specs.Prelude.{◌≡◌, ◌≤◌, ◌<◌, IfSome, length};
 ghost use Rattle.bgp_attr.specs.Paths.{segment_size, path_ok as is_path_of};
 
-// The octets of an AS number in a value of RFC 4271.
+use crate::segments::{AS_SEQUENCE, AS_SET};
+
+// The octets of an AS number (RFC 4271, section 4.3).
 pub(crate) const TWO_OCTETS: usize = 2;
 
-// How many octets the segment at the front has, with so many octets for a number, where a whole one stands there.
+// The length of the segment at the front, its type and count included. None if no whole segment is there.
 fn size_of(octets: &[u8], width: usize) -> Option<usize>
     requires { width ≤ 4 }
     ensures size { result ≡ segment_size width octets.now }
     ensures moves { IfSome result (λ n. 0 < n) }
     ensures within { IfSome result (λ n. n ≤ length octets.now) }
 {
-    if octets.len() < 2 || octets[0] < 1 || 2 < octets[0] || octets[1] == 0 {
+    if octets.len() < 2 {
         return None;
     }
-    let size = 2 + width * usize::from(octets[1]);
+    let (kind, count) = (octets[0], octets[1]);
+    if (kind != AS_SET && kind != AS_SEQUENCE) || count == 0 {
+        return None;
+    }
+    let size = 2 + width * usize::from(count);
     if octets.len() < size {
         return None;
     }
     Some(size)
 }
 
-// Whether a value is segments to its end, with so many octets for a number.
+// Whether segments with AS numbers of `width` octets fill the value.
 pub(crate) fn is_path(value: &[u8], width: usize) -> bool
     requires { width ≤ 4 }
     ensures { result ≡ is_path_of width value.now }
@@ -34,7 +40,8 @@ pub(crate) fn is_path(value: &[u8], width: usize) -> bool
     rest.is_empty()
 }
 
-/// Whether a value is AS_PATH segments to its end, with two octets for an AS number (RFC 4271, 4.3 and 6.3).
+/// Whether segments fill the value, with AS numbers of two octets (RFC 4271, sections 4.3 and 6.3). An empty value is
+/// an empty path.
 pub fn path_ok(value: &[u8]) -> bool
     ensures { result ≡ is_path_of 2 value.now }
 {

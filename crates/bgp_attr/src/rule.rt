@@ -1,76 +1,47 @@
-// What an attribute must be.
+// What an attribute must be, a row for each known code.
 ghost use Rattle.std.specs.Prelude.{◌≡◌, ◌≤◌, slice_index};
-ghost use Rattle.bgp_attr.specs.Rules.{attr_fault, right_flags, right_length, is_host as may_be_host};
+ghost use Rattle.bgp_attr.specs.Rules.{attr_fault, fault_if as fault_where, is_host as may_be_host, row_fault};
 
+use crate::codes::{
+    AGGREGATOR, AS_PATH, ATOMIC_AGGREGATE, LOCAL_PREF, MULTI_EXIT_DISC, NEXT_HOP, ORIGIN,
+};
+use crate::flags::{KEPT, OPTIONAL, OPTIONAL_TRANSITIVE, PARTIAL_TRANSITIVE, WELL_KNOWN};
 use crate::path::{TWO_OCTETS, is_path};
 
-// The codes of RFC 4271, section 5.1.
-const ORIGIN: u8 = 1;
+// The greatest value of ORIGIN: 0 is IGP, 1 is EGP (RFC 4271, section 4.3).
+const INCOMPLETE: u8 = 2;
 
-const AS_PATH: u8 = 2;
+// The length of an IPv4 address, and of a number of four octets.
+const FOUR_OCTETS: usize = 4;
 
-const NEXT_HOP: u8 = 3;
+// First octets of addresses that are no host's: "this" network, loopback, and from multicast on (RFC 6890).
+const THIS_NETWORK: u8 = 0;
 
-const MULTI_EXIT_DISC: u8 = 4;
+const LOOPBACK: u8 = 127;
 
-const ATOMIC_AGGREGATE: u8 = 6;
+const MULTICAST: u8 = 224;
 
-const AGGREGATOR: u8 = 7;
-
-// The flags of RFC 4271, section 4.3; the others aren't judged.
-const OPTIONAL: u8 = 0x80;
-
-const TRANSITIVE: u8 = 0x40;
-
-const PARTIAL: u8 = 0x20;
-
-/// Why an attribute is refused (RFC 4271, 6.3).
+/// Why an attribute is malformed (RFC 4271, section 6.3).
 #[derive(Clone, Copy, Debug, PartialEq, Eq)]
 pub enum AttrFault {
-    /// A well-known attribute of a code that isn't known.
+    /// The attribute is well-known by its flags, and its code is not a known one.
     Unrecognized,
-    /// Flags that the code doesn't have.
+    /// The flags are not those of its code.
     Flags,
-    /// A length that the code doesn't have.
+    /// The length is not that of its code.
     Length,
-    /// An ORIGIN over 2.
+    /// An ORIGIN greater than 2.
     Origin,
-    /// A NEXT_HOP that is no host's address.
+    /// A NEXT_HOP that is not a host's address.
     NextHop,
-    /// An AS_PATH that isn't segments to its end.
+    /// An AS_PATH that its segments do not fill.
     Path,
-}
-
-fn has_right_flags(code: u8, flags: u8) -> bool
-    ensures { result ≡ right_flags code flags }
-{
-    let judged = flags & (OPTIONAL | TRANSITIVE | PARTIAL);
-    match code {
-        MULTI_EXIT_DISC => judged == OPTIONAL,
-        AGGREGATOR => {
-            judged == OPTIONAL | TRANSITIVE || judged == OPTIONAL | TRANSITIVE | PARTIAL
-        }
-        _ => judged == TRANSITIVE,
-    }
-}
-
-fn has_right_length(code: u8, len: usize, width: usize) -> bool
-    requires { width ≤ 4 }
-    ensures { result ≡ right_length width code len }
-{
-    match code {
-        ORIGIN => len == 1,
-        AS_PATH => true,
-        ATOMIC_AGGREGATE => len == 0,
-        AGGREGATOR => len == width + 4,
-        _ => len == 4,
-    }
 }
 
 fn is_host(first: u8) -> bool
     ensures { result ≡ may_be_host first }
 {
-    first != 0 && first != 127 && first < 224
+    first != THIS_NETWORK && first != LOOPBACK && first < MULTICAST
 }
 
 fn first_octet(value: &[u8]) -> u8
@@ -79,35 +50,67 @@ fn first_octet(value: &[u8]) -> u8
     value.first().copied().unwrap_or(0)
 }
 
-// The fault of one attribute, with so many octets for an AS number.
+fn fault_if(bad: bool, fault: AttrFault) -> Option<AttrFault>
+    ensures { result ≡ fault_where bad fault }
+{
+    if bad { Some(fault) } else { None }
+}
+
+// The first fault by one row: the flags are judged first, then the length, then the value.
+fn row(flags_fit: bool, length_fits: bool, value: Option<AttrFault>) -> Option<AttrFault>
+    ensures { result ≡ row_fault flags_fit length_fits value }
+{
+    if !flags_fit {
+        Some(AttrFault::Flags)
+    } else if !length_fits {
+        Some(AttrFault::Length)
+    } else {
+        value
+    }
+}
+
+// The table, with AS numbers of `width` octets.
 #[tactic(auto, unfolding(crate::specs::Rules::attr_fault))]
 fn fault_of(code: u8, flags: u8, value: &[u8], width: usize) -> Option<AttrFault>
     requires { width ≤ 4 }
     ensures { result ≡ attr_fault width code flags value.now }
 {
-    if code == 0 || AGGREGATOR < code {
-        return if flags & OPTIONAL == 0 {
-            Some(AttrFault::Unrecognized)
-        } else {
-            None
-        };
-    }
-    if !has_right_flags(code, flags) {
-        return Some(AttrFault::Flags);
-    }
-    if !has_right_length(code, value.len(), width) {
-        return Some(AttrFault::Length);
-    }
+    let kept = flags & KEPT;
+    let well_known = kept == WELL_KNOWN;
+    let partial = kept == PARTIAL_TRANSITIVE;
+    let len = value.len();
+    let first = first_octet(value);
     match code {
-        ORIGIN if 2 < first_octet(value) => Some(AttrFault::Origin),
-        AS_PATH if !is_path(value, width) => Some(AttrFault::Path),
-        NEXT_HOP if !is_host(first_octet(value)) => Some(AttrFault::NextHop),
-        _ => None,
+        ORIGIN => row(
+            well_known,
+            len == 1,
+            fault_if(INCOMPLETE < first, AttrFault::Origin),
+        ),
+        AS_PATH => row(
+            well_known,
+            true,
+            fault_if(!is_path(value, width), AttrFault::Path),
+        ),
+        NEXT_HOP => row(
+            well_known,
+            len == FOUR_OCTETS,
+            fault_if(!is_host(first), AttrFault::NextHop),
+        ),
+        MULTI_EXIT_DISC => row(kept == OPTIONAL, len == FOUR_OCTETS, None),
+        LOCAL_PREF => row(well_known, len == FOUR_OCTETS, None),
+        ATOMIC_AGGREGATE => row(well_known, len == 0, None),
+        AGGREGATOR => row(
+            kept == OPTIONAL_TRANSITIVE || partial,
+            len == width + FOUR_OCTETS,
+            None,
+        ),
+        _ => fault_if(flags & OPTIONAL == 0, AttrFault::Unrecognized),
     }
 }
 
-/// The first fault of one attribute, by its flags, its length and its value in this order (RFC 4271, 5 and 6.3), with
-/// two octets for an AS number. The bit of a long length and the low four bits of `flags` aren't judged.
+/// The first fault of one attribute, by its flags, its length and its value in this order (RFC 4271, sections 5 and
+/// 6.3), with AS numbers of two octets. None if it has no fault. [`EXTENDED_LENGTH`](crate::flags::EXTENDED_LENGTH) and
+/// the low four bits of `flags` are not judged.
 pub fn attr_rule(code: u8, flags: u8, value: &[u8]) -> Option<AttrFault>
     ensures { result ≡ attr_fault 2 code flags value.now }
 {

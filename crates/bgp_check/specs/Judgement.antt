@@ -6,7 +6,7 @@ use Rattle.xb_wire.specs.Messages.{Notification, notification, Update, lengths_f
 use Rattle.xb_values.specs.Prefixes.{are_prefixes}
 use Rattle.bgp_attr.specs.declared.rule.AttrFault.{AttrFault}
 use Rattle.bgp_attr.specs.declared.rule.AttrFault.TheVariants.{Unrecognized, Flags, Length, Origin, NextHop, Path}
-use Rattle.bgp_attr.specs.Attributes.{attributes, is_whole, flags_of, code_of, codes_of, value_of}
+use Rattle.bgp_attr.specs.Attributes.{attributes, is_whole, attr_flags, attr_code, codes_of, attr_value}
 use Rattle.bgp_attr.specs.Rules.{attr_fault}
 
 -- a check that a test refuses
@@ -23,7 +23,7 @@ attr_notice attribute NextHop = notification 3 8 attribute
 attr_notice attribute Path = notification 3 11 []
 
 abbrev pub attribute_check : ℕ → List ℕ → Option Notification
-attribute_check w attribute = option_map (attr_notice attribute) (attr_fault w (code_of attribute) (flags_of attribute) (value_of attribute))
+attribute_check w attribute = option_map (attr_notice attribute) (attr_fault w (attr_code attribute) (attr_flags attribute) (attr_value attribute))
 
 -- the first of the checks that has a fault
 abbrev pub first_check : List (Option Notification) → Option Notification

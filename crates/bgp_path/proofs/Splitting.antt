@@ -7,8 +7,9 @@ use Rattle.std.specs.Prelude.{◌&&◌, ◌||◌, ◌==◌, nat_le, slice_index,
 use Rattle.xb_words.specs.Cut.{Pieces, after_item, cut}
 use Rattle.xb_words.proofs.Cutting.{cut-some}
 use Rattle.bgp_attr.specs.Paths.{segment_size, segment_of, path_ok}
-use Rattle.bgp_attr.proofs.Sizes.{passed, segment_is_size}
-use Rattle.bgp_attr.proofs.Segments.{rest-none}
+use Rattle.std.proofs.lemmas.Option.{cond_some}
+use Rattle.bgp_attr.proofs.PathsLemmas.{IsSize-segment_size}
+use Rattle.bgp_attr.proofs.PathsLemmas.{segments_rest-none}
 use Rattle.bgp_path.specs.Parts.{part_of, parts}
 use Rattle.bgp_path.specs.Splits.{Ends, Splits}
 
@@ -25,9 +26,9 @@ pub front_size : (w : ℕ) (s : List ℕ) → path_ok w s ≡ true → 0 < lengt
 front_size w s ok e =
     elim (segment_size w s) as (λ o. segment_size w s ≡ o → segment_size w s ≡ Some (2 + w * slice_index s 1)) [
       | None ↦ λ none.
-          let empty : (length s == 0) ≡ true = sym (ap (λ (r : List ℕ). length r == 0) (rest-none w s none)) ∙ ok in
+          let empty : (length s == 0) ≡ true = sym (ap (λ (r : List ℕ). length r == 0) (segments_rest-none w s none)) ∙ ok in
           absurd (omega (arith, e, eqb-true (length s) 0 empty))
-      | Some n ↦ λ some. some ∙ ap Some (sym (passed ((slice_index s 0 == 1 || slice_index s 0 == 2) && nat_le 1 (slice_index s 1) && nat_le (2 + w * slice_index s 1) (length s)) (2 + w * slice_index s 1) n some).1)
+      | Some n ↦ λ some. some ∙ ap Some (sym (cond_some ((slice_index s 0 == 1 || slice_index s 0 == 2) && nat_le 1 (slice_index s 1) && nat_le (2 + w * slice_index s 1) (length s)) (2 + w * slice_index s 1) n some).1)
     ] refl
 
 -- a path whose first two octets are known
@@ -38,12 +39,12 @@ splits_by w a b t ok e =
     let s = a ∷ b ∷ t in
     let x = w * b in
     let kind = a == 1 || a == 2 in
-    let tests = both (kind && nat_le 1 b) (nat_le (2 + x) (length s)) (passed (kind && nat_le 1 b && nat_le (2 + x) (length s)) (2 + x) (2 + x) e).0 in
+    let tests = both (kind && nat_le 1 b) (nat_le (2 + x) (length s)) (cond_some (kind && nat_le 1 b && nat_le (2 + x) (length s)) (2 + x) (2 + x) e).0 in
     let starts = both kind (nat_le 1 b) tests.0 in
     let within : 2 + x ≤ length s = leb-true (2 + x) (length s) tests.1 in
     let two : 2 + x ≡ suc (suc x) = omega arith in
     let cuts : cut (segment_size w) s ≡ after_item (a ∷ b ∷ take x t) (cut (segment_size w) (drop x t)) =
-    cut-some (segment_size w) (segment_is_size w) s (2 + x) e ∙ ap (λ m. after_item (take m s) (cut (segment_size w) (drop m s))) two in
+    cut-some (segment_size w) (IsSize-segment_size w) s (2 + x) e ∙ ap (λ m. after_item (take m s) (cut (segment_size w) (drop m s))) two in
     record {
       pieces = ap (λ (p : Pieces). map part_of p.items) cuts;
       segments = ap (λ (p : Pieces). map (segment_of w) p.items) cuts;
@@ -59,7 +60,7 @@ pub splits : (w : ℕ) (s : List ℕ) (n : ℕ) → path_ok w s ≡ true → 0 <
 splits w [] n ok e size = absurd (omega (arith, e))
 splits w (a ∷ []) n ok e size =
     let size_is = front_size w (a ∷ []) ok e in
-    let within = (segment_is_size w (a ∷ []) (2 + w * 0) size_is).1 in
+    let within = (IsSize-segment_size w (a ∷ []) (2 + w * 0) size_is).1 in
     absurd (omega (arith, within))
 splits w (a ∷ b ∷ t) n ok e size =
     let P : ℕ → Type 0 = λ m. Splits w (a ∷ b ∷ t) (record { set = slice_index (take m (a ∷ b ∷ t)) 0 == 1; count = b; octets = drop 2 (take m (a ∷ b ∷ t)) }) (drop m (a ∷ b ∷ t)) in
@@ -74,7 +75,7 @@ ends w (b ∷ s) e = absurd (omega (arith, e))
 
 -- two octets at least stand before the octets of a first segment
 pub front_within : (w : ℕ) (s : List ℕ) → path_ok w s ≡ true → 0 < length s → 2 + w * slice_index s 1 ≤ length s
-front_within w s ok e = (segment_is_size w s (2 + w * slice_index s 1) (front_size w s ok e)).1
+front_within w s ok e = (IsSize-segment_size w s (2 + w * slice_index s 1) (front_size w s ok e)).1
 
 pub not_empty : (n : ℕ) → (n == 0) ≡ false → 0 < n
 not_empty zero e = cc

@@ -9,14 +9,15 @@ use Rattle.std.specs.Int.Bits.{and_zero_r}
 use Rattle.xb_words.specs.Octets.{two_at, two_octets}
 use Rattle.xb_words.specs.Cut.{cut, IsStable, IsItem}
 use Rattle.xb_words.proofs.Cutting.{cut-joined}
-use Rattle.bgp_attr.specs.Attributes.{attribute_size, flags_of, code_of, value_of, has_long_length, header_size, whole_size}
+use Rattle.bgp_attr.specs.Attributes.{attribute_size, attr_flags, attr_code, attr_value, has_long_length, header_size, whole_size}
 use Rattle.bgp_attr.specs.Routes.{Attribute, Route, canon, canonical, kept_flags, IsEntry, IsRoute}
-use Rattle.bgp_attr.proofs.Sizes.{attribute_is_size, passed}
+use Rattle.bgp_attr.proofs.AttributesLemmas.{IsSize-attribute_size}
+use Rattle.std.proofs.lemmas.Option.{cond_some}
 
 -- a size tells that the whole attribute is there
 whole : (s : List ℕ) (n : ℕ) → attribute_size s ≡ Some n → (whole_size s ≤ length s) × (whole_size s ≡ n)
 whole s n e =
-    let p = passed (nat_le (whole_size s) (length s)) (whole_size s) n e in
+    let p = cond_some (nat_le (whole_size s) (length s)) (whole_size s) n e in
     (leb-true (whole_size s) (length s) p.0, p.1)
 
 three : (b : Bool) → 3 ≤ cond b 4 3
@@ -63,9 +64,9 @@ flag_is_cut f kept = ap kept_flags (with_flag f kept) ∙ and_or_apart 224 f 16 
 -- what is read of a canonical attribute
 pub record IsSpelled (e : ℕ × Attribute) : Type 0 where
   pub item : IsItem attribute_size (canonical e)
-  pub flags : kept_flags (flags_of (canonical e)) ≡ e.1.flags
-  pub code : code_of (canonical e) ≡ e.0
-  pub value : value_of (canonical e) ≡ e.1.value
+  pub flags : kept_flags (attr_flags (canonical e)) ≡ e.1.flags
+  pub code : attr_code (canonical e) ≡ e.0
+  pub value : attr_value (canonical e) ≡ e.1.value
 
 module _ (code flags : ℕ) (value : List ℕ) (kept : kept_flags flags ≡ flags) where
   abbrev e : ℕ × Attribute
@@ -79,9 +80,9 @@ module _ (code flags : ℕ) (value : List ℕ) (kept : kept_flags flags ≡ flag
       rw flag (rw (le-leb (3 + length value) (length (flags ∷ code ∷ length value ∷ value)) (omega arith)) refl) in
       record {
         item = subst (λ (s : List ℕ). IsItem attribute_size s) (sym is) (size ∙ ap Some (omega arith));
-        flags = ap (λ s. kept_flags (flags_of s)) is ∙ kept;
-        code = ap code_of is;
-        value = ap value_of is ∙ (rw flag refl);
+        flags = ap (λ s. kept_flags (attr_flags s)) is ∙ kept;
+        code = ap attr_code is;
+        value = ap attr_value is ∙ (rw flag refl);
       }
 
   long_is : nat_lt 255 (length value) ≡ true → length value < 2 ^ 16 → IsSpelled e
@@ -93,9 +94,9 @@ module _ (code flags : ℕ) (value : List ℕ) (kept : kept_flags flags ≡ flag
       rw (flag, read) (rw (le-leb (4 + length value) (length ((flags + 16) ∷ code ∷ two_octets (length value) ++ value)) (omega arith)) refl) in
       record {
         item = subst (λ (s : List ℕ). IsItem attribute_size s) (sym is) (size ∙ ap Some (omega arith));
-        flags = ap (λ s. kept_flags (flags_of s)) is ∙ flag_is_cut flags kept;
-        code = ap code_of is;
-        value = ap value_of is ∙ (rw flag refl);
+        flags = ap (λ s. kept_flags (attr_flags s)) is ∙ flag_is_cut flags kept;
+        code = ap attr_code is;
+        value = ap attr_value is ∙ (rw flag refl);
       }
 
 pub spelled : (e : ℕ × Attribute) → kept_flags e.1.flags ≡ e.1.flags → length e.1.value < 2 ^ 16 → IsSpelled e
@@ -134,7 +135,7 @@ canon_joined (e ∷ r) = ap (λ s. canonical e ++ s) (canon_joined r)
 pub canon_cut : (r : Route) → AllByRecursion IsSpelled r → cut attribute_size (canon r) ≡ record { items = map canonical r; rest = [] }
 canon_cut r all =
     ap (cut attribute_size) (canon_joined r ∙ sym (append-nil (concat (map canonical r))))
-    ∙ cut-joined attribute_size attribute_is_size attribute_is_stable (map canonical r) [] (all_items r all) refl
+    ∙ cut-joined attribute_size IsSize-attribute_size attribute_is_stable (map canonical r) [] (all_items r all) refl
 
 -- a whole route has spelled entries
 pub route_spelled : (r : Route) → IsRoute r → AllByRecursion IsSpelled r

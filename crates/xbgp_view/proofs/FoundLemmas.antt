@@ -7,9 +7,9 @@ use Rattle.std.proofs.lemmas.Bool.{cases_Bool, ltb-true, ltb-false, le-leb, lt-l
 use Rattle.std.proofs.lemmas.List.{length-append, drop_at, take_at, append-nil}
 use Rattle.xb_words.specs.Cut.{Pieces, walk, walk_from}
 use Rattle.xb_words.specs.Table.{first}
-use Rattle.bgp_attr.specs.Attributes.{code_of}
+use Rattle.bgp_attr.specs.Attributes.{attr_code}
 use Rattle.bgp_attr.specs.Routes.{Route, route_of, canon, canonical}
-use Rattle.bgp_attr.specs.Walks.{Found, found, overrun, attributes_from}
+use Rattle.bgp_attr.specs.Walks.{FoundAttr, found_attr, overrun, attributes_from}
 use Rattle.xbgp_view.specs.Sections.{IsGap, at_code, gap_of, IsCanonical, lower, upper, past, found_from}
 use Rattle.xbgp_view.proofs.Canonical.{IsSpelled, canon_cut, route_spelled}
 use Rattle.bgp_attr.specs.Routes.{attribute_at}
@@ -18,11 +18,11 @@ use Rattle.xbgp_view.specs.Views.{code_from}
 use Rattle.xbgp_view.proofs.Places.{split_is, front, at_is}
 
 -- the entry with which some entries begin, at a place
-abbrev pub head_found : ℕ → Route → Option Found
-head_found at r = option_map (λ e. found at (canonical e)) (first r)
+abbrev pub head_found : ℕ → Route → Option FoundAttr
+head_found at r = option_map (λ e. found_attr at (canonical e)) (first r)
 
 found_in : (from at : ℕ) (r : Route) → AllByRecursion IsSpelled r
-    → found_from from (walk found overrun at (map canonical r) []) ≡ head_found (at + length (canon (lower from r))) (upper from r)
+    → found_from from (walk found_attr overrun at (map canonical r) []) ≡ head_found (at + length (canon (lower from r))) (upper from r)
 found_in from at [] all = refl
 found_in from at (e ∷ r) all = elim (cases_Bool (nat_lt e.0 from)) [
   | inl below ↦
@@ -30,8 +30,8 @@ found_in from at (e ∷ r) all = elim (cases_Bool (nat_lt e.0 from)) [
       rw (all.0.code, no, below) (found_in from (at + length (canonical e)) r all.1
       ∙ ap (λ n. head_found n (upper from r)) (omega (arith, length-append (canonical e) (canon (lower from r)))))
   | inr here ↦
-      let yes : nat_le from (code_of (canonical e)) ≡ true = ap (nat_le from) all.0.code ∙ le-leb from e.0 (ltb-false e.0 from here) in
-      rw (yes, here) (ap (λ n. Some (found n (canonical e))) (omega arith))
+      let yes : nat_le from (attr_code (canonical e)) ≡ true = ap (nat_le from) all.0.code ∙ le-leb from e.0 (ltb-false e.0 from here) in
+      rw (yes, here) (ap (λ n. Some (found_attr n (canonical e))) (omega arith))
 ]
 
 -- the walk over a whole section
@@ -42,14 +42,14 @@ found_is from s is =
     let r = route_of s in
     let all = route_spelled r is.route in
     ap (λ t. found_from from (attributes_from 0 t)) (sym is.octets)
-    ∙ ap (λ (p : Pieces). found_from from (walk found overrun 0 p.items p.rest)) (canon_cut r all)
+    ∙ ap (λ (p : Pieces). found_from from (walk found_attr overrun 0 p.items p.rest)) (canon_cut r all)
     ∙ found_in from 0 r all
     ∙ ap (λ n. head_found n (upper from r)) (omega arith)
 
 head_at : (code at : ℕ) (r : Route) → AllByRecursion IsSpelled r → at_code code (head_found at r) ≡ front code r
 head_at code at [] all = refl
 head_at code at (e ∷ r) all =
-    rw (all.0.code) (ap (λ f. if e.0 == code then Some (record { flags = f; value = (found at (canonical e)).value }) else None) all.0.flags
+    rw (all.0.code) (ap (λ f. if e.0 == code then Some (record { flags = f; value = (found_attr at (canonical e)).value }) else None) all.0.flags
     ∙ ap (λ v. if e.0 == code then Some (record { flags = e.1.flags; value = v }) else None) all.0.value)
 
 upper_spelled : (code : ℕ) (r : Route) → AllByRecursion IsSpelled r → AllByRecursion IsSpelled (upper code r)
@@ -66,7 +66,7 @@ attribute_found code s is =
     ∙ head_at code (length (canon (lower code r))) (upper code r) (upper_spelled code r (route_spelled r is.route))
     ∙ sym (at_is code r is.route.rising)
 
-head_code : (from at : ℕ) (r : Route) → AllByRecursion IsSpelled r → option_map (λ (f : Found). f.code) (head_found at (upper from r)) ≡ code_from r from
+head_code : (from at : ℕ) (r : Route) → AllByRecursion IsSpelled r → option_map (λ (f : FoundAttr). f.code) (head_found at (upper from r)) ≡ code_from r from
 head_code from at [] all = refl
 head_code from at (e ∷ r) all = elim (cases_Bool (nat_lt e.0 from)) [
   | inl below ↦
@@ -77,9 +77,9 @@ head_code from at (e ∷ r) all = elim (cases_Bool (nat_lt e.0 from)) [
       rw (here, yes) (ap Some all.0.code)
 ]
 
-pub code_found : (from : ℕ) (s : List ℕ) → IsCanonical s → option_map (λ (f : Found). f.code) (found_from from (attributes_from 0 s)) ≡ code_from (route_of s) from
+pub code_found : (from : ℕ) (s : List ℕ) → IsCanonical s → option_map (λ (f : FoundAttr). f.code) (found_from from (attributes_from 0 s)) ≡ code_from (route_of s) from
 code_found from s is =
-    ap (option_map (λ (f : Found). f.code)) (found_is from s is)
+    ap (option_map (λ (f : FoundAttr). f.code)) (found_is from s is)
     ∙ head_code from (length (canon (lower from (route_of s)))) (route_of s) (route_spelled (route_of s) is.route)
 
 pub canon_parts : (l u : Route) → canon (l ++ u) ≡ canon l ++ canon u
@@ -97,7 +97,7 @@ head_gap code len l [] all size g is =
 head_gap code len l (e ∷ u) all size g is = elim (eqb_tells e.0 code) [
   | inl here ↦
       let first_is : g.0 ≡ length (canon l) = ap (λ (p : ℕ × ℕ). p.0) is in
-      let same : (found (length (canon l)) (canonical e)).code == code ≡ true = ap (λ c. c == code) all.0.code ∙ here.0 in
+      let same : (found_attr (length (canon l)) (canonical e)).code == code ≡ true = ap (λ c. c == code) all.0.code ∙ here.0 in
       let last_is : g.1 ≡ length (canon l) + length (canonical e) = ap (λ (p : ℕ × ℕ). p.1) is ∙ (rw same refl) in
       let front : canon l ++ (canonical e ++ canon u) ≡ (canon l ++ canonical e) ++ canon u = sym (append_assoc (canon l) (canonical e) (canon u)) in
       let sum = length-append (canon l) (canonical e) in
@@ -109,7 +109,7 @@ head_gap code len l (e ∷ u) all size g is = elim (eqb_tells e.0 code) [
       )
   | inr other ↦
       let first_is : g.0 ≡ length (canon l) = ap (λ (p : ℕ × ℕ). p.0) is in
-      let apart : (found (length (canon l)) (canonical e)).code == code ≡ false = ap (λ c. c == code) all.0.code ∙ other.0 in
+      let apart : (found_attr (length (canon l)) (canonical e)).code == code ≡ false = ap (λ c. c == code) all.0.code ∙ other.0 in
       let last_is : g.1 ≡ length (canon l) = ap (λ (p : ℕ × ℕ). p.1) is ∙ (rw apart refl) in
       let total = length-append (canon l) (canon (e ∷ u)) in (
         take_at (canon l) (canon (e ∷ u)) g.0 (sym first_is),
@@ -134,11 +134,11 @@ gap_is code s is =
       inside = h.3;
     }
 
-head_inside : (l u : Route) (f : Found) → head_found (length (canon l)) u ≡ Some f → f.at + length f.raw ≤ length (canon l ++ canon u)
+head_inside : (l u : Route) (f : FoundAttr) → head_found (length (canon l)) u ≡ Some f → f.at + length f.raw ≤ length (canon l ++ canon u)
 head_inside l [] f is = absurd (cc is)
 head_inside l (e ∷ u) f is =
-    let same : found (length (canon l)) (canonical e) ≡ f = cc is in
-    subst (λ (g : Found). g.at + length g.raw ≤ length (canon l ++ canon (e ∷ u))) same
+    let same : found_attr (length (canon l)) (canonical e) ≡ f = cc is in
+    subst (λ (g : FoundAttr). g.at + length g.raw ≤ length (canon l ++ canon (e ∷ u))) same
     (omega (arith, length-append (canon l) (canonical e ++ canon u), length-append (canonical e) (canon u)))
 
 -- what a walk finds stands inside

@@ -10,7 +10,7 @@ use Rattle.std.specs.declared.cmp.Ordering.TheVariants.{Less}
 use Rattle.std.proofs.lemmas.Cmp.{nat_cmp_total}
 use Rattle.xb_words.specs.Cut.{Pieces, cut}
 use Rattle.xb_words.specs.Table.{with_value}
-use Rattle.bgp_attr.specs.Attributes.{flags_of, code_of, value_of}
+use Rattle.bgp_attr.specs.Attributes.{attr_flags, attr_code, attr_value}
 use Rattle.bgp_attr.specs.Routes.{Attribute, Route, route_of, canon, canonical, neutral, with_attribute, IsRoute}
 use Rattle.xbgp_view.specs.Sections.{IsCanonical}
 use Rattle.xbgp_view.proofs.Canonical.{IsSpelled, all_spelled, canon_cut}
@@ -39,21 +39,21 @@ all_below_more acc (x ∷ r) e below less = (below_more acc x.0 e below.0 less.0
 
 -- an attribute as it is read enters a route
 abbrev enter : Route → List ℕ → Route
-enter r a = with_attribute r (code_of a) (flags_of a) (value_of a)
+enter r a = with_attribute r (attr_code a) (attr_flags a) (attr_value a)
 
 entered : (acc : Route) (e : ℕ × Attribute) → IsSpelled e → Below e.0 acc → enter acc (canonical e) ≡ acc ++ e ∷ []
 entered acc e is below =
-    ap (λ c. with_value nat_cmp acc c (record { flags = (bit_and (flags_of (canonical e)) 224); value = value_of (canonical e) })) is.code
-    ∙ ap (λ f. with_value nat_cmp acc e.0 (record { flags = f; value = value_of (canonical e) })) is.flags
+    ap (λ c. with_value nat_cmp acc c (record { flags = (bit_and (attr_flags (canonical e)) 224); value = attr_value (canonical e) })) is.code
+    ∙ ap (λ f. with_value nat_cmp acc e.0 (record { flags = f; value = attr_value (canonical e) })) is.flags
     ∙ ap (λ v. with_value nat_cmp acc e.0 (record { flags = e.1.flags; value = v })) is.value
     ∙ add_last acc e.0 e.1 below
 
 entered_all : (acc r : Route) → AllByRecursion IsSpelled r → IsStrictlySortedBy nat_cmp (keys_of r) → AllBelow acc r
-    → fold (λ r a. with_attribute r (code_of a) (flags_of a) (value_of a)) acc (map canonical r) ≡ acc ++ r
+    → fold (λ r a. with_attribute r (attr_code a) (attr_flags a) (attr_value a)) acc (map canonical r) ≡ acc ++ r
 unfolding IsStrictlySortedBy
 entered_all acc [] all rising below = sym (append-nil acc)
 entered_all acc (e ∷ r) all rising below =
-    ap (λ x. fold (λ r a. with_attribute r (code_of a) (flags_of a) (value_of a)) x (map canonical r)) (entered acc e all.0 below.0)
+    ap (λ x. fold (λ r a. with_attribute r (attr_code a) (attr_flags a) (attr_value a)) x (map canonical r)) (entered acc e all.0 below.0)
     ∙ entered_all (acc ++ e ∷ []) r all.1 rising.1 (all_below_more acc r e below.1 rising.0)
     ∙ append_assoc acc (e ∷ []) r
 

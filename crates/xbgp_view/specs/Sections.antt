@@ -3,7 +3,7 @@ use Rattle.std.specs.Prelude.{◌≡◌, ◌≤◌, ℕ, List, [], ◌∷◌, le
 use Rattle.bgp_attr.specs.Routes.{Attribute, Route, route_of, canon, canonical, kept_flags, IsRoute}
 use Rattle.bgp_attr.specs.declared.attrs.Attr.{Attr}
 use Rattle.bgp_attr.specs.declared.attrs.Overrun.{Overrun}
-use Rattle.bgp_attr.specs.Walks.{Found}
+use Rattle.bgp_attr.specs.Walks.{FoundAttr}
 
 -- the octets are the canonical section of the route that they are read as
 pub record IsCanonical (section : List ℕ) : Type 0 where
@@ -25,25 +25,25 @@ past code [] = []
 past code (e ∷ es) = if e.0 == code then es else e ∷ es
 
 -- an attribute without its place in memory, and what a route has of it
-abbrev pub seen : Attr → Found
+abbrev pub seen : Attr → FoundAttr
 seen a = record { at = a.at; flags = a.flags; code = a.code; value = a.value.now; raw = a.raw.now }
 
 abbrev pub attribute_of : Attr → Attribute
 attribute_of a = record { flags = kept_flags a.flags; value = a.value.now }
 
 -- the first attribute of a walk whose code is at least a number
-abbrev pub found_from : ℕ → List (Result Found Overrun) → Option Found
+abbrev pub found_from : ℕ → List (Result FoundAttr Overrun) → Option FoundAttr
 found_from from [] = None
 found_from from (Ok a ∷ steps) = if nat_le from a.code then Some a else found_from from steps
 found_from from (Err o ∷ steps) = None
 
 -- what the walk finds at one code
-abbrev pub at_code : ℕ → Option Found → Option Attribute
+abbrev pub at_code : ℕ → Option FoundAttr → Option Attribute
 at_code code None = None
 at_code code (Some f) = if f.code == code then Some (record { flags = kept_flags f.flags; value = f.value }) else None
 
 -- where a code stands or would stand, by what the walk finds
-abbrev pub gap_of : ℕ → ℕ → Option Found → ℕ × ℕ
+abbrev pub gap_of : ℕ → ℕ → Option FoundAttr → ℕ × ℕ
 gap_of code len None = (len, len)
 gap_of code len (Some f) = (f.at, if f.code == code then f.at + length f.raw else f.at)
 

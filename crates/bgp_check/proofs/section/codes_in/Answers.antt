@@ -1,5 +1,5 @@
 use Rattle.std.proofs.Common.{rules, ◌≡◌, ◌<◌, [], ◌∷◌, true, Ok, Err}
-use Rattle.bgp_attr.specs.Shown.{shown}
+use Rattle.bgp_attr.specs.Views.{attr_step_view}
 use Rattle.bgp_check.specs.Codes.{holds}
 use Rattle.bgp_check.proofs.Steps.{gathered_overrun, gathered_twice, gathered_all}
 use Rattle.bgp_check.proofs.section.codes_in.Goals as goal
@@ -12,7 +12,7 @@ returns-in_default-step-clause-malformed c =
 pub returns-then-contains-clause-malformed : goal.returns-then-contains-clause-malformed
 returns-then-contains-clause-malformed c =
     let a = c.in-Ok.attr in
-    let walk : c.attributes.attrs ≡ shown (Ok a) ∷ c.next.new.self = search rules in
+    let walk : c.attributes.attrs ≡ attr_step_view (Ok a) ∷ c.next.new.self = search rules in
     let small : a.code < 256 = search rules in
     let held : holds c.attributes.codes.words a.code ≡ true = search rules in
     gathered_twice c.args.section.now c.attributes.codes.words (record { at = a.at; flags = a.flags; code = a.code; value = a.value.now; raw = a.raw.now }) c.next.new.self (rw walk at c.attributes.invariant) small held

@@ -1,13 +1,13 @@
-use crate::{AttrFault, Attrs, Overrun, attr_rule, path_ok};
+use bgp_attr::{AttrFault, Attrs, Overrun, attr_rule, path_ok};
 use std::test::Fail;
 
-// ORIGIN, AS_PATH and NEXT_HOP, then a header that wants one octet more than are left.
+// ORIGIN, AS_PATH and NEXT_HOP, then a header that needs one octet more than are left.
 const SECTION: [u8; 22] = [
     0x40, 1, 1, 0, 0x40, 2, 4, 2, 1, 0xfd, 0xe9, 0x40, 3, 4, 192, 0, 2, 1, 0xd0, 200, 0, 1,
 ];
 
 #[test]
-fn a_walk_hands_out_parts_up_to_an_overrun(rt: HostRuntime) -> Result<(), Fail> {
+fn a_walk_returns_parts_up_to_an_overrun(rt: HostRuntime) -> Result<(), Fail> {
     let mut attrs = Attrs::new(&SECTION);
     let origin = attrs.next().ok_or("the end")?.ok().ok_or("an overrun")?;
     assert_eq!(rt; origin.raw, &SECTION[..4]);
@@ -24,7 +24,7 @@ fn a_walk_hands_out_parts_up_to_an_overrun(rt: HostRuntime) -> Result<(), Fail> 
 }
 
 #[test]
-fn the_first_fault_of_an_attribute_is_told(rt: HostRuntime) {
+fn the_first_fault_of_an_attribute_is_returned(rt: HostRuntime) {
     assert_eq!(rt; attr_rule(1, 0x40, &[0]), None);
     assert_eq!(rt; attr_rule(1, 0x80, &[0]), Some(AttrFault::Flags));
     assert_eq!(rt; attr_rule(2, 0x40, &[2, 0]), Some(AttrFault::Path));

@@ -1,0 +1,6 @@
+//! Tests of the crates that read a message's body: `bgp_attr`, `bgp_path`, `bgp_check` and `bgp_open`. Their expected
+//! values are written out by hand from RFC 4271. There is nothing here but these tests.
+#![tactic(auto)]
+
+#[cfg(test)]
+mod attributes;
