@@ -1,6 +1,5 @@
 -- A write and a removal are taken back, one alone and many from the last to the first.
 use Rattle.std.proofs.Common.{◌≡◌, ℕ, zero, suc, ◌+◌, ◌-◌, ◌<◌, ◌≤◌, Bool, true, false, IsTrue, if◌then◌else◌, nat_le, is_some, List, [], ◌∷◌, ◌++◌, length, take, Option, Some, None, MatchOption, IfSome, IsSome, refl, sym, ◌∙◌, ap, subst, arith, length-append}
-use Rattle.std.specs.Option.{option_map}
 use Rattle.std.specs.List.{slice_get, slice_set, AllByRecursion}
 use Rattle.std.proofs.lemmas.Cmp.{nat_list_cmp_total}
 use Rattle.std.proofs.lemmas.Map.Lookups.{exact_bytes}
@@ -16,7 +15,7 @@ use Rattle.xbgp_maps.specs.declared.shape.Remove.TheVariants as removes
 use Rattle.xb_words.specs.Table.{without}
 use Rattle.xbgp_maps.specs.Mappings.{Mapping, IsMapping, Journalled, key_cmp, mapping_at, value_in, put_in, taken_from, put_answer, remove_answer, after_put, after_remove, is_full, written, empty_maps, is_from_1_to, shapes_of, closed, AreWithinLimits, HasWidths, IsShape}
 use Rattle.xbgp_maps.specs.declared.limits.TheConstants.{MAX_KEY, MAX_VALUE, BUDGET}
-use Rattle.xbgp_maps.specs.Journals.{Write, write_of, FitsBack, restored, taken_back, all_taken_back, CanTakeBack, CanTakeAllBack, IsNarrow, IsUndoable, journal_view, when_done, was_put, was_removed}
+use Rattle.xbgp_maps.specs.Journals.{Write, write_of, restored, taken_back, all_taken_back, CanTakeBack, CanTakeAllBack, IsNarrow, IsUndoable, journal_view, when_done, was_put, was_removed}
 use Rattle.xb_words.proofs.Entries.{found, undo_new, undo_over, undo_without, value_with, length_without}
 
 get_again : (maps : List Mapping) (n : ℕ) (m after : Mapping) → slice_get maps n ≡ Some m → slice_get (slice_set maps n after) n ≡ Some after
@@ -73,18 +72,22 @@ last_there : (x : Write) (ws : List Write) → slice_get (x ∷ ws) (length ws) 
 last_there x [] none = cc none
 last_there x (y ∷ ws) none = last_there y ws none
 
+-- without a last write there is none
 pub no_last : (ws : List Write) → slice_get ws (length ws - 1) ≡ None → ws ≡ []
 no_last [] none = refl
 no_last (x ∷ ws) none =
     let len : suc (length ws) - 1 ≡ length ws = omega arith in
     absurd (last_there x ws (subst (λ n. slice_get (x ∷ ws) n ≡ None) len none))
 
+-- the last write can be taken back
 pub can_take_last : (ws : List Write) (w : Write) (maps : List Mapping) → slice_get ws (length ws - 1) ≡ Some w → CanTakeAllBack ws maps → CanTakeBack w maps
 can_take_last ws w maps last all = (can_pop (take (length ws - 1) ws) w maps (subst (λ vs. CanTakeAllBack vs maps) (cut_last ws w last) all)).1
 
+-- then the writes before it can
 pub can_take_rest : (ws : List Write) (w : Write) (maps : List Mapping) → slice_get ws (length ws - 1) ≡ Some w → CanTakeAllBack ws maps → CanTakeAllBack (take (length ws - 1) ws) (taken_back w maps)
 can_take_rest ws w maps last all = (can_pop (take (length ws - 1) ws) w maps (subst (λ vs. CanTakeAllBack vs maps) (cut_last ws w last) all)).0
 
+-- taking back the last and then the others takes back all
 pub last_then_rest : (ws : List Write) (w : Write) (maps : List Mapping) → slice_get ws (length ws - 1) ≡ Some w → all_taken_back (take (length ws - 1) ws) (taken_back w maps) ≡ all_taken_back ws maps
 last_then_rest ws w maps last = sym (all_back_push (take (length ws - 1) ws) w maps) ∙ sym (ap (λ vs. all_taken_back vs maps) (cut_last ws w last))
 
@@ -119,6 +122,7 @@ narrow_back : (ws : List Write) (maps : List Mapping) → AllByRecursion IsNarro
 narrow_back [] maps narrow = narrow
 narrow_back (w ∷ ws) maps narrow = narrow_back_one w (all_taken_back ws maps) (narrow_back ws maps narrow)
 
+-- maps whose run was undone
 pub undoable_undone : (ws vs : List Write) (maps after : List Mapping) → IsUndoable ws maps → vs ≡ [] → after ≡ all_taken_back ws maps → IsUndoable vs after
 undoable_undone ws vs maps after undoable none is = rw (none, is) (record { back = tt; narrow = narrow_back ws maps undoable.narrow; budget = omega arith })
 
@@ -154,7 +158,7 @@ can_remove maps n m k w there kept width is =
       fits = rw (get_again maps n m (taken_from m k) there, is) (width, (entry.2.1, λ none. omega (arith, fewer, room)));
     }
 
--- fewer writes than may stand
+-- fewer writes than a run may have
 below_budget : (n : ℕ) → nat_le BUDGET n ≡ false → n < BUDGET
 below_budget n more = omega (arith, leb-false)
 
@@ -169,7 +173,7 @@ wrote ws maps n m after k undoable there back narrow can less =
       budget = simp length-append (omega (arith, less));
     }
 
--- the maps as at the begin stay, and one write more stands in the journal
+-- the maps as at the begin stay, and the journal has one more write
 wrote_seen : (is_open : Bool) (ws : List Write) (maps : List Mapping) (n : ℕ) (m after : Mapping) (k : List ℕ) → is_open ≡ true → slice_get maps n ≡ Some m → restored after k (value_in m k) ≡ m
     → journal_view is_open (ws ++ write_of n m k ∷ []) (slice_set maps n after) ≡ written (journal_view is_open ws maps) (slice_set maps n after)
 wrote_seen is_open ws maps n m after k opened there back =
@@ -201,7 +205,7 @@ remove_done writes m k done = by (nat_le BUDGET writes) (is_some (value_in m k))
     by false true is e = (refl, is)
     by false false is e = absurd (cc e)
 
--- what every write leaves, done or not
+-- after a write, done or not, the writes can still be taken back
 pub put_undoable : (ws js : List Write) (maps : List Mapping) (n : ℕ) (m t : Mapping) (k v : List ℕ) (answer : Put) → IsUndoable ws maps → slice_get maps n ≡ Some m → IsMapping m → length k ≡ m.shape.key → answer ≡ put_answer (length ws) m k
     → t ≡ when_done (was_put answer) (put_in m k v) m → js ≡ when_done (was_put answer) (ws ++ write_of n m k ∷ []) ws → IsUndoable js (slice_set maps n t)
 put_undoable ws js maps n m t k v puts.Done undoable there kept width answer table journal =
@@ -209,6 +213,7 @@ put_undoable ws js maps n m t k v puts.Done undoable there kept width answer tab
 put_undoable ws js maps n m t k v puts.Full undoable there kept width answer table journal = rw (table, journal, set_same maps n m there) undoable
 put_undoable ws js maps n m t k v puts.Budget undoable there kept width answer table journal = rw (table, journal, set_same maps n m there) undoable
 
+-- what contracts see after a write
 pub put_seen : (is_open : Bool) (ws js : List Write) (maps : List Mapping) (n : ℕ) (m t : Mapping) (k v : List ℕ) (answer : Put) → is_open ≡ true → slice_get maps n ≡ Some m → IsMapping m
     → t ≡ when_done (was_put answer) (put_in m k v) m → js ≡ when_done (was_put answer) (ws ++ write_of n m k ∷ []) ws → journal_view is_open js (slice_set maps n t) ≡ after_put (journal_view is_open ws maps) n m k v answer
 put_seen is_open ws js maps n m t k v puts.Done opened there kept table journal = rw (table, journal) (wrote_seen is_open ws maps n m (put_in m k v) k opened there (undo_put m k v (value_in m k) kept refl))
@@ -222,6 +227,7 @@ some_value (Some w) some = (w, refl)
 undo_taken : (m : Mapping) (k : List ℕ) → IsMapping m → IsSome (value_in m k) → restored (taken_from m k) k (value_in m k) ≡ m
 undo_taken m k kept some = let at = some_value (value_in m k) some in rw at.1 (undo_remove m k at.0 kept at.1)
 
+-- the same after a removal
 pub remove_undoable : (ws js : List Write) (maps : List Mapping) (n : ℕ) (m t : Mapping) (k : List ℕ) (answer : Remove) → IsUndoable ws maps → slice_get maps n ≡ Some m → IsMapping m → length k ≡ m.shape.key → answer ≡ remove_answer (length ws) m k
     → t ≡ when_done (was_removed answer) (taken_from m k) m → js ≡ when_done (was_removed answer) (ws ++ write_of n m k ∷ []) ws → IsUndoable js (slice_set maps n t)
 remove_undoable ws js maps n m t k removes.Done undoable there kept width answer table journal =
@@ -231,6 +237,7 @@ remove_undoable ws js maps n m t k removes.Done undoable there kept width answer
 remove_undoable ws js maps n m t k removes.Absent undoable there kept width answer table journal = rw (table, journal, set_same maps n m there) undoable
 remove_undoable ws js maps n m t k removes.Budget undoable there kept width answer table journal = rw (table, journal, set_same maps n m there) undoable
 
+-- what contracts see after a removal
 pub remove_seen : (is_open : Bool) (ws js : List Write) (maps : List Mapping) (n : ℕ) (m t : Mapping) (k : List ℕ) (answer : Remove) → is_open ≡ true → slice_get maps n ≡ Some m → IsMapping m → answer ≡ remove_answer (length ws) m k
     → t ≡ when_done (was_removed answer) (taken_from m k) m → js ≡ when_done (was_removed answer) (ws ++ write_of n m k ∷ []) ws → journal_view is_open js (slice_set maps n t) ≡ after_remove (journal_view is_open ws maps) n m k answer
 remove_seen is_open ws js maps n m t k removes.Done opened there kept answer table journal = rw (table, journal) (wrote_seen is_open ws maps n m (taken_from m k) k opened there (undo_taken m k kept (remove_done (length ws) m k (sym answer)).1))
@@ -244,15 +251,16 @@ narrow_empty (s ∷ shapes) ranges = (record { key = upper MAX_KEY s.key ranges.
     upper : (most n : ℕ) → IsTrue (is_from_1_to most n) → n ≤ most
     upper most n is = grind (arith, nat_tests)
 
+-- maps without entries
 pub undoable_empty : (ws : List Write) (maps : List Mapping) (shapes : List MapShape) → AreWithinLimits shapes → ws ≡ [] → maps ≡ empty_maps shapes → IsUndoable ws maps
 undoable_empty ws maps shapes limits none is = rw (none, is) (record { back = tt; narrow = narrow_empty shapes limits.ranges; budget = omega arith })
 
--- a run is open where the maps as at its begin are journal_view
+-- a run is open if contracts see the maps as at its begin
 pub is_opened : (is_open : Bool) (maps : List Mapping) → IsSome (if is_open then Some maps else None) → is_open ≡ true
 is_opened true maps some = refl
 is_opened false maps some = absurd (cc some)
 
--- a map that takes the place of one of its own shape changes no shape
+-- a map in place of one of the same shape changes no shape
 shapes_set : (maps : List Mapping) (n : ℕ) (m t : Mapping) → slice_get maps n ≡ Some m → t.shape ≡ m.shape → shapes_of (slice_set maps n t) ≡ shapes_of maps
 shapes_set [] n m t there same = absurd (cc there)
 shapes_set (x ∷ xs) zero m t there same =
@@ -275,20 +283,23 @@ shapes_back : (ws : List Write) (maps : List Mapping) → shapes_of (all_taken_b
 shapes_back [] maps = refl
 shapes_back (w ∷ ws) maps = shapes_back_one w (all_taken_back ws maps) ∙ shapes_back ws maps
 
+-- an undo changes no shape
 pub undone_shapes : (ws : List Write) (maps after : List Mapping) → after ≡ all_taken_back ws maps → shapes_of after ≡ shapes_of maps
 undone_shapes ws maps after is = ap shapes_of is ∙ shapes_back ws maps
 
+-- a write changes no shape
 pub put_shapes : (maps : List Mapping) (n : ℕ) (m t : Mapping) (k v : List ℕ) (answer : Put) → slice_get maps n ≡ Some m → t ≡ when_done (was_put answer) (put_in m k v) m → shapes_of (slice_set maps n t) ≡ shapes_of maps
 put_shapes maps n m t k v puts.Done there table = shapes_set maps n m t there (ap (λ (x : Mapping). x.shape) table)
 put_shapes maps n m t k v puts.Full there table = shapes_set maps n m t there (ap (λ (x : Mapping). x.shape) table)
 put_shapes maps n m t k v puts.Budget there table = shapes_set maps n m t there (ap (λ (x : Mapping). x.shape) table)
 
+-- a removal changes no shape
 pub remove_shapes : (maps : List Mapping) (n : ℕ) (m t : Mapping) (k : List ℕ) (answer : Remove) → slice_get maps n ≡ Some m → t ≡ when_done (was_removed answer) (taken_from m k) m → shapes_of (slice_set maps n t) ≡ shapes_of maps
 remove_shapes maps n m t k removes.Done there table = shapes_set maps n m t there (ap (λ (x : Mapping). x.shape) table)
 remove_shapes maps n m t k removes.Absent there table = shapes_set maps n m t there (ap (λ (x : Mapping). x.shape) table)
 remove_shapes maps n m t k removes.Budget there table = shapes_set maps n m t there (ap (λ (x : Mapping). x.shape) table)
 
--- what is journal_view of the begin, where the answer is one that the write gives
+-- the maps as at the begin stay after a write, whatever it returns
 put_began : (j : Journalled) (n : ℕ) (m : Mapping) (k v : List ℕ) (answer : Put) → (after_put j n m k v answer).began ≡ j.began
 put_began j n m k v puts.Done = refl
 put_began j n m k v puts.Full = refl
@@ -299,8 +310,10 @@ remove_began j n m k removes.Done = refl
 remove_began j n m k removes.Absent = refl
 remove_began j n m k removes.Budget = refl
 
+-- a write leaves the maps as at the begin
 pub began_after_put : (j after : Journalled) (n : ℕ) (m : Mapping) (k v : List ℕ) (answer : Put) → after ≡ after_put j n m k v answer → after.began ≡ j.began
 began_after_put j after n m k v answer is = ap (λ (x : Journalled). x.began) is ∙ put_began j n m k v answer
 
+-- so does a removal
 pub began_after_remove : (j after : Journalled) (n : ℕ) (m : Mapping) (k : List ℕ) (answer : Remove) → after ≡ after_remove j n m k answer → after.began ≡ j.began
 began_after_remove j after n m k answer is = ap (λ (x : Journalled). x.began) is ∙ remove_began j n m k answer

@@ -42,7 +42,7 @@ abbrev pub FitsBack : Write → Mapping → Type 0
 FitsBack w m =
     (length w.key ≡ m.shape.key)
     × MatchOption w.old (Unit {0}) (λ value.
-      (length value ≡ m.shape.value) × (value_in m w.key ≡ None → length m.entries < m.shape.entries))
+    (length value ≡ m.shape.value) × (value_in m w.key ≡ None → length m.entries < m.shape.entries))
 
 -- a write that can be taken back: its map is there, and it fits
 pub record CanTakeBack (w : Write) (maps : List Mapping) : Type 0 where

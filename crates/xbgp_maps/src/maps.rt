@@ -55,10 +55,8 @@ fn write(table: &mut Table, journal: &mut Journal, map: u32, key: &[u8], value: 
     ensures kept { IsMapping table.old }
     ensures answer { result ≡ put_answer (length journal.old) table.old key.now }
     ensures table { table.new ≡ when_done (was_put result) (put_in table.old key.now value.now) table.old }
-    ensures journal {
-        journal.new
-            ≡ when_done (was_put result) (journal.old ++ write_of map table.old key.now ∷ []) journal.old
-    }
+    ensures journal { journal.new
+        ≡ when_done (was_put result) (journal.old ++ write_of map table.old key.now ∷ []) journal.old }
 {
     let old = table.get(key);
     if journal.is_spent() {
@@ -88,10 +86,8 @@ fn take_out(table: &mut Table, journal: &mut Journal, map: u32, key: &[u8]) -> R
     ensures kept { IsMapping table.old }
     ensures answer { result ≡ remove_answer (length journal.old) table.old key.now }
     ensures table { table.new ≡ when_done (was_removed result) (taken_from table.old key.now) table.old }
-    ensures journal {
-        journal.new
-            ≡ when_done (was_removed result) (journal.old ++ write_of map table.old key.now ∷ []) journal.old
-    }
+    ensures journal { journal.new
+        ≡ when_done (was_removed result) (journal.old ++ write_of map table.old key.now ∷ []) journal.old }
 {
     let gone = table.get(key);
     if journal.is_spent() {
@@ -109,10 +105,8 @@ fn take_out(table: &mut Table, journal: &mut Journal, map: u32, key: &[u8]) -> R
 fn restore(table: &mut Table, change: &Change)
     requires key { length change.now.key ≡ table.old.shape.key }
     requires value { IfSome change.now.old (λ v. length v ≡ table.old.shape.value) }
-    requires room {
-        IfSome change.now.old (λ v. value_in table.old change.now.key ≡ None →
-            length table.old.entries < table.old.shape.entries)
-    }
+    requires room { IfSome change.now.old (λ v. value_in table.old change.now.key ≡ None →
+        length table.old.entries < table.old.shape.entries) }
     ensures { table.new ≡ restored table.old change.now.key change.now.old }
 {
     match change.old() {
@@ -168,9 +162,7 @@ impl Maps {
         requires value { IfSome (mapping_at self.old.maps map) (λ m. length value.now ≡ m.shape.value) }
         requires open { IsSome self.old.began }
         ensures answer { IfSome (mapping_at self.old.maps map) (λ m. result ≡ put_answer self.old.writes m key.now) }
-        ensures after {
-            IfSome (mapping_at self.old.maps map) (λ m. self.new ≡ after_put self.old map m key.now value.now result)
-        }
+        ensures after { IfSome (mapping_at self.old.maps map) (λ m. self.new ≡ after_put self.old map m key.now value.now result) }
         ensures began { self.new.began ≡ self.old.began }
         ensures shapes { shapes_of self.new.maps ≡ shapes_of self.old.maps }
     {
@@ -184,9 +176,7 @@ impl Maps {
         requires key { IfSome (mapping_at self.old.maps map) (λ m. length key.now ≡ m.shape.key) }
         requires open { IsSome self.old.began }
         ensures answer { IfSome (mapping_at self.old.maps map) (λ m. result ≡ remove_answer self.old.writes m key.now) }
-        ensures after {
-            IfSome (mapping_at self.old.maps map) (λ m. self.new ≡ after_remove self.old map m key.now result)
-        }
+        ensures after { IfSome (mapping_at self.old.maps map) (λ m. self.new ≡ after_remove self.old map m key.now result) }
         ensures began { self.new.began ≡ self.old.began }
         ensures shapes { shapes_of self.new.maps ≡ shapes_of self.old.maps }
     {
@@ -236,9 +226,7 @@ impl Maps {
     /// The first key after a key, by the order of octets, or the first of all. `after` need not be in the map, and may
     /// have any width. None if no key comes after it, or if there is no such map.
     pub fn key_after(&self, map: u32, after: Option<&[u8]>) -> Option<&[u8]>
-        ensures key {
-            option_map (λ k. k.now) result ≡ key_after_in self.now.maps map (option_map (λ k. k.now) after.entry)
-        }
+        ensures key { option_map (λ k. k.now) result ≡ key_after_in self.now.maps map (option_map (λ k. k.now) after.entry) }
         ensures width { IfSome result (λ k. IfSome (mapping_at self.now.maps map) (λ m. length k.now ≡ m.shape.key)) }
         ensures kept { IfSome (mapping_at self.now.maps map) IsMapping }
     {
@@ -248,16 +236,10 @@ impl Maps {
 
     /// The same walk as by `key_after`, with the key and the value of each entry.
     pub fn entry_after(&self, map: u32, after: Option<&[u8]>) -> Option<(&[u8], &[u8])>
-        ensures entry {
-            option_map (λ e. (e.0.now, e.1.now)) result
-                ≡ entry_after_in self.now.maps map (option_map (λ k. k.now) after.entry)
-        }
-        ensures key {
-            IfSome result (λ e. IfSome (mapping_at self.now.maps map) (λ m. length e.0.now ≡ m.shape.key))
-        }
-        ensures value {
-            IfSome result (λ e. IfSome (mapping_at self.now.maps map) (λ m. length e.1.now ≡ m.shape.value))
-        }
+        ensures entry { option_map (λ e. (e.0.now, e.1.now)) result
+            ≡ entry_after_in self.now.maps map (option_map (λ k. k.now) after.entry) }
+        ensures key { IfSome result (λ e. IfSome (mapping_at self.now.maps map) (λ m. length e.0.now ≡ m.shape.key)) }
+        ensures value { IfSome result (λ e. IfSome (mapping_at self.now.maps map) (λ m. length e.1.now ≡ m.shape.value)) }
         ensures kept { IfSome (mapping_at self.now.maps map) IsMapping }
     {
         self.tables.get(map as usize)?.entry_after(after)

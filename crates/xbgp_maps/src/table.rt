@@ -31,11 +31,9 @@ impl Model for Table {
 
     ghost view = { λ t. record { shape = t.shape; entries = entries_of t.root } };
 
-    ghost invariant = {
-        λ t.
+    ghost invariant = { λ t.
         let m : Mapping = record { shape = t.shape; entries = entries_of t.root } in
-        IsTable m (map (λ n. n.value) t.spare.items) (vec_capacity t.spare) × IsBalanced t.root
-    };
+        IsTable m (map (λ n. n.value) t.spare.items) (vec_capacity t.spare) × IsBalanced t.root };
 }
 
 // Nodes for all entries of a map.
@@ -155,10 +153,8 @@ impl Table {
 
     /// The first entry after a key, or the first of all.
     pub fn entry_after(&self, after: Option<&[u8]>) -> Option<(&[u8], &[u8])>
-        ensures entry {
-            option_map (λ e. (e.0.now, e.1.now)) result
-                ≡ entry_after key_cmp self.now.entries (option_map (λ k. k.now) after.entry)
-        }
+        ensures entry { option_map (λ e. (e.0.now, e.1.now)) result
+            ≡ entry_after key_cmp self.now.entries (option_map (λ k. k.now) after.entry) }
         ensures widths { IfSome result (λ e. HasWidths self.now.shape (e.0.now, e.1.now)) }
         ensures kept { IsMapping self.now }
     {

@@ -57,9 +57,7 @@ pub(crate) fn first(tree: &Tree) -> Option<(&[u8], &[u8])>
 #[tactic(auto, using(crate::proofs::TreesLemmas::walk))]
 pub(crate) fn first_after<'t>(tree: &'t Tree, key: &[u8]) -> Option<(&'t [u8], &'t [u8])>
     requires { IsRising key_cmp (entries_of tree.now) }
-    ensures {
-        option_map (λ e. (e.0.now, e.1.now)) result ≡ entry_after key_cmp (entries_of tree.now) (Some key.now)
-    }
+    ensures { option_map (λ e. (e.0.now, e.1.now)) result ≡ entry_after key_cmp (entries_of tree.now) (Some key.now) }
 {
     match tree {
         Tree::Leaf => None,
@@ -113,9 +111,7 @@ fn with_node(tree: Tree, new: Box<Node>) -> Tree
     requires absent { value_at key_cmp (entries_of tree) new.value.key.items ≡ None }
     requires balanced { IsBalanced tree }
     requires low { IsLow (height_of tree) }
-    ensures entries {
-        entries_of result ≡ with_value key_cmp (entries_of tree) new.value.key.items new.value.value.items
-    }
+    ensures entries { entries_of result ≡ with_value key_cmp (entries_of tree) new.value.key.items new.value.value.items }
     ensures balanced { IsBalanced result }
     ensures height { IsSameOrOneMore (height_of tree) (height_of result) }
 {
@@ -144,9 +140,7 @@ pub(crate) fn insert(tree: &mut Tree, new: Box<Node>)
     requires absent { value_at key_cmp (entries_of tree.old) new.value.key.items ≡ None }
     requires balanced { IsBalanced tree.old }
     requires low { IsLow (height_of tree.old) }
-    ensures entries {
-        entries_of tree.new ≡ with_value key_cmp (entries_of tree.old) new.value.key.items new.value.value.items
-    }
+    ensures entries { entries_of tree.new ≡ with_value key_cmp (entries_of tree.old) new.value.key.items new.value.value.items }
     ensures balanced { IsBalanced tree.new }
 {
     *tree = with_node(tree.take(), new);

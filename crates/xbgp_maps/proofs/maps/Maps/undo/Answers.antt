@@ -1,5 +1,4 @@
-use Rattle.std.proofs.Common.{◌≡◌, ◌∙◌, ap, sym}
-use Rattle.xbgp_maps.specs.Journals.{all_taken_back}
+use Rattle.std.proofs.Common.{◌∙◌, sym}
 use Rattle.xbgp_maps.proofs.JournalsLemmas.{can_take_last, can_take_rest, last_then_rest, no_last, undoable_undone, undone_is, undone_shapes, undone_tables}
 use Rattle.xbgp_maps.proofs.maps.Maps.undo.Goals as goal
 

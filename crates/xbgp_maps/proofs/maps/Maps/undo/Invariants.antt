@@ -7,8 +7,8 @@ abbrev pub invariant-writes : goal.invariant-writes
 invariant-writes l = record {
   can : CanTakeAllBack l.self-inside.journal l.self-inside.tables.items;
   finishes :
-    all_taken_back l.self-inside.journal l.self-inside.tables.items
-    ≡ all_taken_back l.initial.self-inside.journal l.initial.self-inside.tables.items;
+      all_taken_back l.self-inside.journal l.self-inside.tables.items
+      ≡ all_taken_back l.initial.self-inside.journal l.initial.self-inside.tables.items;
 }
 
 abbrev pub decreases-writes : goal.decreases-writes
