@@ -1,7 +1,7 @@
 // What a NOTIFICATION says about an UPDATE (RFC 4271, sections 4.5 and 6.3).
 ghost use Rattle.std.specs.Prelude.{◌≡◌, []};
 ghost use Rattle.xb_wire.specs.Messages.{notification};
-ghost use Rattle.xb_wire.specs.Notices.{said};
+ghost use Rattle.xb_wire.specs.Views.{notice_view};
 ghost use Rattle.bgp_check.specs.Judgement.{attr_notice, missing_notice};
 
 use bgp_attr::AttrFault;
@@ -36,7 +36,7 @@ static AS_PATH: [u8; 1] = [2];
 static NEXT_HOP: [u8; 1] = [3];
 
 fn about_update(subcode: u8, extra: &[u8]) -> Notice<'_>
-    ensures { said result ≡ notification 3 subcode extra.now }
+    ensures { notice_view result ≡ notification 3 subcode extra.now }
 {
     Notice {
         code: UPDATE_MESSAGE_ERROR,
@@ -46,38 +46,38 @@ fn about_update(subcode: u8, extra: &[u8]) -> Notice<'_>
 }
 
 pub(crate) fn malformed() -> Notice<'static>
-    ensures { said result ≡ notification 3 1 [] }
+    ensures { notice_view result ≡ notification 3 1 [] }
 {
     about_update(MALFORMED_ATTRIBUTE_LIST, &[])
 }
 
 pub(crate) fn bad_prefix() -> Notice<'static>
-    ensures { said result ≡ notification 3 10 [] }
+    ensures { notice_view result ≡ notification 3 10 [] }
 {
     about_update(INVALID_NETWORK_FIELD, &[])
 }
 
 pub(crate) fn origin_missing() -> Notice<'static>
-    ensures { said result ≡ missing_notice 1 }
+    ensures { notice_view result ≡ missing_notice 1 }
 {
     about_update(MISSING_WELL_KNOWN_ATTRIBUTE, &ORIGIN)
 }
 
 pub(crate) fn as_path_missing() -> Notice<'static>
-    ensures { said result ≡ missing_notice 2 }
+    ensures { notice_view result ≡ missing_notice 2 }
 {
     about_update(MISSING_WELL_KNOWN_ATTRIBUTE, &AS_PATH)
 }
 
 pub(crate) fn next_hop_missing() -> Notice<'static>
-    ensures { said result ≡ missing_notice 3 }
+    ensures { notice_view result ≡ missing_notice 3 }
 {
     about_update(MISSING_WELL_KNOWN_ATTRIBUTE, &NEXT_HOP)
 }
 
 // The notice of the fault of an attribute, of which these are all octets.
 pub(crate) fn of_attribute(raw: &[u8], fault: AttrFault) -> Notice<'_>
-    ensures { said result ≡ attr_notice raw.now fault }
+    ensures { notice_view result ≡ attr_notice raw.now fault }
 {
     match fault {
         AttrFault::Unrecognized => about_update(UNRECOGNIZED_WELL_KNOWN_ATTRIBUTE, raw),

@@ -1,6 +1,6 @@
 // The checks of a section of path attributes.
 ghost use Rattle.std.specs.Prelude.{◌≡◌, ℕ, ◌<◌, [], ◌∷◌, map, find, is_none, not, option_map, IfSome};
-ghost use Rattle.xb_wire.specs.Notices.{said};
+ghost use Rattle.xb_wire.specs.Views.{notice_view};
 ghost use Rattle.bgp_attr.specs.Attributes.{attributes, codes_of};
 ghost use Rattle.bgp_attr.specs.Rules.{attr_fault};
 ghost use Rattle.bgp_check.specs.Codes.{holds};
@@ -37,7 +37,7 @@ fn codes_in(section: &[u8]) -> Option<Codes>
 }
 
 fn fault_of<'a>(attr: Attr<'a>) -> Option<Notice<'a>>
-    ensures { option_map said result ≡ option_map (attr_notice attr.entry.raw.now) (attr_fault 2 attr.entry.code attr.entry.flags attr.entry.value.now) }
+    ensures { option_map notice_view result ≡ option_map (attr_notice attr.entry.raw.now) (attr_fault 2 attr.entry.code attr.entry.flags attr.entry.value.now) }
 {
     let fault = attr_rule(attr.code, attr.flags, attr.value)?;
     Some(notices::of_attribute(attr.raw, fault))
@@ -46,7 +46,7 @@ fn fault_of<'a>(attr: Attr<'a>) -> Option<Notice<'a>>
 // The first fault of the attributes, each judged alone.
 #[tactic(auto, using(crate::proofs::Steps::first_found_section))]
 fn first_fault(section: &[u8]) -> Option<Notice<'_>>
-    ensures { option_map said result ≡ first_check (map (attribute_check 2) (attributes section.now)) }
+    ensures { option_map notice_view result ≡ first_check (map (attribute_check 2) (attributes section.now)) }
 {
     let mut attrs = Attrs::new(section);
     'attributes: while let Some(step) = attrs.next() {
@@ -61,7 +61,7 @@ fn first_fault(section: &[u8]) -> Option<Notice<'_>>
 }
 
 fn first_missing(codes: &Codes) -> Option<Notice<'static>>
-    ensures { option_map said result ≡ option_map missing_notice (find (λ code. not (holds codes.now.words code)) (1 ∷ 2 ∷ 3 ∷ [])) }
+    ensures { option_map notice_view result ≡ option_map missing_notice (find (λ code. not (holds codes.now.words code)) (1 ∷ 2 ∷ 3 ∷ [])) }
 {
     if !codes.contains(ORIGIN) {
         Some(notices::origin_missing())
@@ -78,7 +78,7 @@ fn first_missing(codes: &Codes) -> Option<Notice<'static>>
 /// The data of a fault is as in [`check_update`](crate::check_update).
 #[tactic(auto, unfolding(crate::specs::Judgement::judge_section))]
 pub fn check_section<'a>(section: &'a [u8], announces: bool) -> Option<Notice<'a>>
-    ensures { option_map said result ≡ judge_section 2 section.now announces }
+    ensures { option_map notice_view result ≡ judge_section 2 section.now announces }
 {
     let Some(codes) = codes_in(section) else {
         return Some(notices::malformed());

@@ -8,7 +8,7 @@
 ghost use Rattle.std.specs.Prelude.{◌≡◌, ◌≤◌, [], length, IfOk, IfErr, Some, None};
 ghost use Rattle.std.specs.Option.{option_map};
 ghost use Rattle.xb_wire.specs.Messages.{notification};
-ghost use Rattle.xb_wire.specs.Notices.{said};
+ghost use Rattle.xb_wire.specs.Views.{notice_view};
 ghost use Rattle.bgp_open.specs.Opens.{front_field, fills, parameter_fault, parameters_fault, fixed_fault, judge_open, seen};
 
 use xb_wire::Notice;
@@ -37,7 +37,7 @@ const CAPABILITIES: u8 = 2;
 
 // A fault of OPEN without data.
 fn refused(subcode: u8) -> Notice<'static>
-    ensures { said result ≡ notification 2 subcode [] }
+    ensures { notice_view result ≡ notification 2 subcode [] }
 {
     Notice {
         code: 2,
@@ -74,7 +74,7 @@ fn fills(octets: &[u8]) -> bool
 
 fn fault_of_parameter(parameter: &[u8]) -> Option<Notice<'static>>
     requires { 2 ≤ length parameter.now }
-    ensures { option_map said result ≡ parameter_fault parameter.now }
+    ensures { option_map notice_view result ≡ parameter_fault parameter.now }
 {
     if parameter[0] != CAPABILITIES {
         Some(refused(4))
@@ -87,7 +87,7 @@ fn fault_of_parameter(parameter: &[u8]) -> Option<Notice<'static>>
 
 #[tactic(auto, using(crate::proofs::Fields::walks))]
 fn fault_of_parameters(octets: &[u8]) -> Option<Notice<'static>>
-    ensures { option_map said result ≡ parameters_fault octets.now }
+    ensures { option_map notice_view result ≡ parameters_fault octets.now }
 {
     let mut rest = octets;
     while let Some((parameter, behind)) = split_field(rest) {
@@ -106,7 +106,7 @@ fn fault_of_parameters(octets: &[u8]) -> Option<Notice<'static>>
 // The part before the parameters, and the parameters' length.
 fn fault_of_fixed_part(body: &[u8], peer_as: u32) -> Option<Notice<'static>>
     requires { 10 ≤ length body.now }
-    ensures { option_map said result ≡ fixed_fault body.now peer_as }
+    ensures { option_map notice_view result ≡ fixed_fault body.now peer_as }
 {
     let hold = u16_at(body, 3);
     if body[0] != VERSION {
@@ -133,7 +133,7 @@ fn fault_of_fixed_part(body: &[u8], peer_as: u32) -> Option<Notice<'static>>
 #[tactic(auto, unfolding(crate::specs::Opens::judge_open))]
 pub fn read_open<'a>(body: &'a [u8], want: &OpenWant) -> Result<OpenSeen, Notice<'a>>
     requires { 10 ≤ length body.now }
-    ensures fault { IfErr result (λ n. judge_open body.now want.now.peer_as ≡ Some (said n)) }
+    ensures fault { IfErr result (λ n. judge_open body.now want.now.peer_as ≡ Some (notice_view n)) }
     ensures accepted { IfOk result (λ o. judge_open body.now want.now.peer_as ≡ None) }
     ensures values { IfOk result (λ o. o ≡ seen body.now) }
 {

@@ -5,7 +5,7 @@ use Rattle.std.proofs.lemmas.Bool.Decides.{nat_tests}
 use Rattle.std.proofs.lemmas.List.{length-take-le, take-append-drop}
 use Rattle.std.specs.Prelude.{◌&&◌, ◌||◌, ◌==◌, nat_le, slice_index, if◌then◌else◌}
 use Rattle.xb_words.specs.Cut.{Pieces, after_item, cut}
-use Rattle.xb_words.proofs.Cutting.{cut-some}
+use Rattle.xb_words.proofs.CutLemmas.{cut-some}
 use Rattle.bgp_attr.specs.Paths.{segment_size, segment_of, path_ok}
 use Rattle.std.proofs.lemmas.Option.{cond_some}
 use Rattle.bgp_attr.proofs.PathsLemmas.{IsSize-segment_size}

@@ -29,11 +29,11 @@ set_again (x ∷ xs) zero m after there = let same : x ≡ m = cc there in ap (�
 set_again (x ∷ xs) (suc n) m after there = ap (λ (ys : List Mapping). x ∷ ys) (set_again xs n m after there)
 
 undo_put : (m : Mapping) (k v : List ℕ) (old : Option (List ℕ)) → IsMapping m → value_in m k ≡ old → restored (put_in m k v) k old ≡ m
-undo_put m k v None kept at = ap (λ (es : List (List ℕ × List ℕ)). record m { entries = es }) (undo_new key_cmp nat_list_cmp_total m.entries k v at)
-undo_put m k v (Some w) kept at = ap (λ (es : List (List ℕ × List ℕ)). record m { entries = es }) (undo_over key_cmp nat_list_cmp_total m.entries k v w kept.rising at)
+undo_put m k v None kept at = ap (λ (es : List (List ℕ × List ℕ)). record m { entries = es }) (without-with_value key_cmp nat_list_cmp_total m.entries k v at)
+undo_put m k v (Some w) kept at = ap (λ (es : List (List ℕ × List ℕ)). record m { entries = es }) (with_value-with_value key_cmp nat_list_cmp_total m.entries k v w kept.rising at)
 
 undo_remove : (m : Mapping) (k w : List ℕ) → IsMapping m → value_in m k ≡ Some w → restored (taken_from m k) k (Some w) ≡ m
-undo_remove m k w kept at = ap (λ (es : List (List ℕ × List ℕ)). record m { entries = es }) (undo_without key_cmp nat_list_cmp_total exact_bytes m.entries k w kept.rising at)
+undo_remove m k w kept at = ap (λ (es : List (List ℕ × List ℕ)). record m { entries = es }) (with_value-without key_cmp nat_list_cmp_total exact_bytes m.entries k w kept.rising at)
 
 one_back : (maps : List Mapping) (n : ℕ) (m after : Mapping) (k : List ℕ) (old : Option (List ℕ)) → slice_get maps n ≡ Some m → restored after k old ≡ m → taken_back (record { map = n; key = k; old = old }) (slice_set maps n after) ≡ maps
 one_back maps n m after k old there is =
