@@ -16,7 +16,7 @@ use Rattle.xb_words.specs.Table.{without}
 use Rattle.xbgp_maps.specs.Mappings.{Mapping, IsMapping, Journalled, key_cmp, mapping_at, value_in, put_in, taken_from, put_answer, remove_answer, after_put, after_remove, is_full, written, empty_maps, is_from_1_to, shapes_of, closed, AreWithinLimits, HasWidths, IsShape}
 use Rattle.xbgp_maps.specs.declared.limits.TheConstants.{MAX_KEY, MAX_VALUE, BUDGET}
 use Rattle.xbgp_maps.specs.Journals.{Write, write_of, restored, taken_back, all_taken_back, CanTakeBack, CanTakeAllBack, IsNarrow, IsUndoable, journal_view, when_done, was_put, was_removed}
-use Rattle.xb_words.proofs.Entries.{found, undo_new, undo_over, undo_without, value_with, length_without}
+use Rattle.xb_words.proofs.TableLemmas.{value_at-some, without-with_value, with_value-with_value, with_value-without, value_at-with_value, length-without}
 
 get_again : (maps : List Mapping) (n : ℕ) (m after : Mapping) → slice_get maps n ≡ Some m → slice_get (slice_set maps n after) n ≡ Some after
 get_again [] n m after there = absurd (cc there)
@@ -72,7 +72,7 @@ last_there : (x : Write) (ws : List Write) → slice_get (x ∷ ws) (length ws) 
 last_there x [] none = cc none
 last_there x (y ∷ ws) none = last_there y ws none
 
--- without a last write there is none
+-- if there is no last write, there are no writes
 pub no_last : (ws : List Write) → slice_get ws (length ws - 1) ≡ None → ws ≡ []
 no_last [] none = refl
 no_last (x ∷ ws) none =
@@ -145,13 +145,13 @@ can_put maps n m k v there kept width = record {
     by : (old : Option (List ℕ)) → value_in m k ≡ old → MatchOption old (Unit {0}) (λ value. (length value ≡ m.shape.value) × (value_in (put_in m k v) k ≡ None → length (put_in m k v).entries < m.shape.entries))
     by None is = tt
     by (Some w) is =
-        let entry = found key_cmp (HasWidths m.shape) m.entries k w kept.widths is in
-        (entry.2.1, λ none. absurd (cc (none, value_with key_cmp nat_list_cmp_total m.entries k v)))
+        let entry = value_at-some key_cmp (HasWidths m.shape) m.entries k w kept.widths is in
+        (entry.2.1, λ none. absurd (cc (none, value_at-with_value key_cmp nat_list_cmp_total m.entries k v)))
 
 can_remove : (maps : List Mapping) (n : ℕ) (m : Mapping) (k w : List ℕ) → slice_get maps n ≡ Some m → IsMapping m → length k ≡ m.shape.key → value_in m k ≡ Some w → CanTakeBack (write_of n m k) (slice_set maps n (taken_from m k))
 can_remove maps n m k w there kept width is =
-    let entry = found key_cmp (HasWidths m.shape) m.entries k w kept.widths is in
-    let fewer : suc (length (without key_cmp m.entries k)) ≡ length m.entries = length_without key_cmp m.entries k w is in
+    let entry = value_at-some key_cmp (HasWidths m.shape) m.entries k w kept.widths is in
+    let fewer : suc (length (without key_cmp m.entries k)) ≡ length m.entries = length-without key_cmp m.entries k w is in
     let room : length m.entries ≤ m.shape.entries = kept.room in
     record {
       exists = simp length-set (slice_get_within maps n m there);
@@ -260,7 +260,7 @@ pub is_opened : (is_open : Bool) (maps : List Mapping) → IsSome (if is_open th
 is_opened true maps some = refl
 is_opened false maps some = absurd (cc some)
 
--- a map in place of one of the same shape changes no shape
+-- replacing a map by one of the same shape changes no shape
 shapes_set : (maps : List Mapping) (n : ℕ) (m t : Mapping) → slice_get maps n ≡ Some m → t.shape ≡ m.shape → shapes_of (slice_set maps n t) ≡ shapes_of maps
 shapes_set [] n m t there same = absurd (cc there)
 shapes_set (x ∷ xs) zero m t there same =

@@ -7,7 +7,7 @@ use Rattle.std.proofs.lemmas.Cmp.{nat_list_cmp_total}
 use Rattle.std.proofs.lemmas.Map.Lookups.{exact_bytes}
 use Rattle.std.specs.Option.{option_map}
 use Rattle.std.specs.Ordering.{is_lt}
-use Rattle.xb_words.specs.Table.{with_value, without, behind, entry_after, first}
+use Rattle.xb_words.specs.Table.{with_value, without, entries_after, entry_after, first_of}
 use Rattle.xbgp_maps.specs.declared.node.Node.{Node}
 use Rattle.xbgp_maps.specs.declared.shape.MapShape.{MapShape}
 use Rattle.xbgp_maps.specs.Mappings.{Mapping, HasWidths, IsMapping, key_cmp, value_in, put_in, taken_from}
@@ -119,17 +119,17 @@ table_empty shape spare room count enough blank = record {
   blank = blank;
 }
 
-all_first : {A : Type 0} (P : A → Type 0) (xs : List A) (x : A) → AllByRecursion P xs → first xs ≡ Some x → P x
+all_first : {A : Type 0} (P : A → Type 0) (xs : List A) (x : A) → AllByRecursion P xs → first_of xs ≡ Some x → P x
 all_first P [] x all is = absurd (cc is)
 all_first P (y ∷ ys) x all is = let same : y ≡ x = cc is in subst P same all.0
 
-all_after : (P : List ℕ × List ℕ → Type 0) (es : Entries) (after : Option (List ℕ)) → AllByRecursion P es → AllByRecursion P (behind key_cmp es after)
+all_after : (P : List ℕ × List ℕ → Type 0) (es : Entries) (after : Option (List ℕ)) → AllByRecursion P es → AllByRecursion P (entries_after key_cmp es after)
 all_after P es None all = all
 all_after P es (Some k) all = by es all
   where
-    by : (es : Entries) → AllByRecursion P es → AllByRecursion P (behind key_cmp es (Some k))
+    by : (es : Entries) → AllByRecursion P es → AllByRecursion P (entries_after key_cmp es (Some k))
     by [] all = tt
-    by (e ∷ es) all = elim (is_lt (key_cmp k e.0)) as (λ b. AllByRecursion P (if b then e ∷ behind key_cmp es (Some k) else behind key_cmp es (Some k))) [
+    by (e ∷ es) all = elim (is_lt (key_cmp k e.0)) as (λ b. AllByRecursion P (if b then e ∷ entries_after key_cmp es (Some k) else entries_after key_cmp es (Some k))) [
       | true ↦ (all.0, by es all.1)
       | false ↦ by es all.1
     ]
@@ -139,10 +139,10 @@ pub entry_widths : {B : Type 0} (now : B → List ℕ × List ℕ) (m : Mapping)
     → option_map now o ≡ entry_after key_cmp m.entries after → IfSome o (λ b. HasWidths m.shape (now b))
 entry_widths now m after None kept is = tt
 entry_widths now m after (Some b) kept is =
-    all_first (HasWidths m.shape) (behind key_cmp m.entries after) (now b) (all_after (HasWidths m.shape) m.entries after kept.widths) (sym is)
+    all_first (HasWidths m.shape) (entries_after key_cmp m.entries after) (now b) (all_after (HasWidths m.shape) m.entries after kept.widths) (sym is)
 
 -- a value that is looked up has the width of its map
 pub value_width : {B : Type 0} (now : B → List ℕ) (m : Mapping) (k : List ℕ) (o : Option B) → IsMapping m → option_map now o ≡ value_in m k
     → IfSome o (λ b. length (now b) ≡ m.shape.value)
 value_width now m k None kept is = tt
-value_width now m k (Some b) kept is = (found key_cmp (HasWidths m.shape) m.entries k (now b) kept.widths (sym is)).2.1
+value_width now m k (Some b) kept is = (value_at-some key_cmp (HasWidths m.shape) m.entries k (now b) kept.widths (sym is)).2.1

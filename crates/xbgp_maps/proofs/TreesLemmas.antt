@@ -58,7 +58,7 @@ first_cut [] e rs = refl
 first_cut (l ∷ ls) e rs = refl
 
 -- the first entry is the first at the left, or the node's
-pub first_below : (n : Node) → first (entries_below n) ≡ middle.or_entry (first (entries_of n.left)) (entry_of n)
+pub first_below : (n : Node) → first_of (entries_below n) ≡ middle.or_entry (first_of (entries_of n.left)) (entry_of n)
 first_below n = first_cut (entries_of n.left) (entry_of n) (entries_of n.right)
 
 -- the values at the left have the width

@@ -1,6 +1,7 @@
 -- A journal of writes: taking them back from the last to the first gives the maps as before the first.
 -- Contracts of `Maps` cite `Mappings` alone: these words are for its private functions and its invariant.
-use Rattle.std.specs.Prelude.{◌≡◌, ℕ, ◌<◌, ◌≤◌, Bool, true, false, List, [], ◌∷◌, length, Option, Some, None, MatchOption, IsSomeAnd, if◌then◌else◌}
+use Rattle.std.specs.Prelude.{◌≡◌, ℕ, ◌<◌, ◌≤◌, Bool, true, false, List, [], ◌∷◌, length, if◌then◌else◌}
+use Rattle.std.specs.Prelude.{Option, Some, None, MatchOption, IsSomeAnd}
 use Rattle.std.specs.List.{slice_set, AllByRecursion}
 use Rattle.xbgp_maps.specs.declared.shape.Put.{Put}
 use Rattle.xbgp_maps.specs.declared.shape.Put.TheVariants as puts

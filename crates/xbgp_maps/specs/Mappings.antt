@@ -1,6 +1,7 @@
 -- Maps of programs (this project's own): finite maps from keys to values of fixed widths, with limits on their entries
 -- and on the writes of a run.
-use Rattle.std.specs.Prelude.{◌≡◌, ℕ, ◌+◌, ◌*◌, ◌≤◌, Bool, List, [], length, map, sum_by, Option, Some, None, is_some, option_map, nat_le, ◌&&◌, not, IsTrue, if◌then◌else◌}
+use Rattle.std.specs.Prelude.{◌≡◌, ℕ, ◌+◌, ◌*◌, ◌≤◌, nat_le, ◌&&◌, not, IsTrue, if◌then◌else◌}
+use Rattle.std.specs.Prelude.{Bool, List, [], length, map, sum_by, Option, Some, None, is_some, option_map}
 use Rattle.std.specs.declared.cmp.Ordering.{Ordering}
 use Rattle.std.specs.Ordering.{nat_cmp}
 use Rattle.std.specs.Cmp.Lexicographic.{slice_cmp}
@@ -25,7 +26,9 @@ is_from_1_to most n = nat_le 1 n && nat_le n most
 -- the widths and the most entries of a map
 abbrev pub IsShape : MapShape → Type 0
 IsShape s =
-    IsTrue (is_from_1_to MAX_KEY s.key) × IsTrue (is_from_1_to MAX_VALUE s.value) × IsTrue (is_from_1_to MAX_ENTRIES s.entries)
+    IsTrue (is_from_1_to MAX_KEY s.key)
+    × IsTrue (is_from_1_to MAX_VALUE s.value)
+    × IsTrue (is_from_1_to MAX_ENTRIES s.entries)
 
 -- the limits of maps: their number, the widths and the most entries of each, and the octets of all entries together
 pub record AreWithinLimits (shapes : List MapShape) : Type 0 where

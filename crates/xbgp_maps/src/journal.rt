@@ -24,7 +24,8 @@ impl Model for Change {
 
     ghost Value = { Write };
 
-    ghost view = { λ c. record { map = c.map; key = c.key.octets; old = if c.was_there then Some c.value.octets else None } };
+    ghost view = { λ c.
+        record { map = c.map; key = c.key.octets; old = if c.was_there then Some c.value.octets else None } };
 
     ghost invariant = { λ c. (c.key.capacity ≡ MAX_KEY) × (c.value.capacity ≡ MAX_VALUE) };
 }
@@ -140,7 +141,8 @@ impl Journal {
         requires room { length self.old < BUDGET }
         requires key { length key.now ≤ MAX_KEY }
         requires old { IfSome old (λ v. length v.now ≤ MAX_VALUE) }
-        ensures { self.new ≡ self.old ++ record { map = map; key = key.now; old = option_map (λ v. v.now) old.entry } ∷ [] }
+        ensures { self.new
+            ≡ self.old ++ record { map = map; key = key.now; old = option_map (λ v. v.now) old.entry } ∷ [] }
     {
         self.changes[self.count].fill(map, key, old);
         self.count += 1;

@@ -16,8 +16,8 @@ use std::marker::Model;
 
 /// Finite maps from keys to values of fixed widths, numbered from 0.
 ///
-/// Writes and removals are made in a run, which is begun, and then either kept or undone as a whole. All memory is taken
-/// when the maps are made.
+/// Writes and removals are made in a run, which is begun, and then either kept or undone as a whole. All memory is
+/// taken when the maps are made.
 #[derive(Drop)]
 pub struct Maps {
     tables: Vec<Table>,
@@ -125,7 +125,8 @@ fn take_back(tables: &mut Vec<Table>, change: &Change)
 }
 
 impl Maps {
-    /// Maps of these shapes, without entries: the map 0 has the first shape. No run is open. Fails if there is no memory.
+    /// Maps of these shapes, without entries: the map 0 has the first shape. No run is open. Err if there is no
+    /// memory.
     pub fn make(alloc: Global, shapes: &[MapShape]) -> Result<Maps, AllocError>
         requires { AreWithinLimits shapes.now }
         ensures { IfOk result (λ m. m ≡ closed (empty_maps shapes.now)) }
@@ -162,7 +163,8 @@ impl Maps {
         requires value { IfSome (mapping_at self.old.maps map) (λ m. length value.now ≡ m.shape.value) }
         requires open { IsSome self.old.began }
         ensures answer { IfSome (mapping_at self.old.maps map) (λ m. result ≡ put_answer self.old.writes m key.now) }
-        ensures after { IfSome (mapping_at self.old.maps map) (λ m. self.new ≡ after_put self.old map m key.now value.now result) }
+        ensures after { IfSome (mapping_at self.old.maps map)
+            (λ m. self.new ≡ after_put self.old map m key.now value.now result) }
         ensures began { self.new.began ≡ self.old.began }
         ensures shapes { shapes_of self.new.maps ≡ shapes_of self.old.maps }
     {
@@ -176,7 +178,8 @@ impl Maps {
         requires key { IfSome (mapping_at self.old.maps map) (λ m. length key.now ≡ m.shape.key) }
         requires open { IsSome self.old.began }
         ensures answer { IfSome (mapping_at self.old.maps map) (λ m. result ≡ remove_answer self.old.writes m key.now) }
-        ensures after { IfSome (mapping_at self.old.maps map) (λ m. self.new ≡ after_remove self.old map m key.now result) }
+        ensures after { IfSome (mapping_at self.old.maps map)
+            (λ m. self.new ≡ after_remove self.old map m key.now result) }
         ensures began { self.new.began ≡ self.old.began }
         ensures shapes { shapes_of self.new.maps ≡ shapes_of self.old.maps }
     {
@@ -226,7 +229,8 @@ impl Maps {
     /// The first key after a key, by the order of octets, or the first of all. `after` need not be in the map, and may
     /// have any width. None if no key comes after it, or if there is no such map.
     pub fn key_after(&self, map: u32, after: Option<&[u8]>) -> Option<&[u8]>
-        ensures key { option_map (λ k. k.now) result ≡ key_after_in self.now.maps map (option_map (λ k. k.now) after.entry) }
+        ensures key { option_map (λ k. k.now) result
+            ≡ key_after_in self.now.maps map (option_map (λ k. k.now) after.entry) }
         ensures width { IfSome result (λ k. IfSome (mapping_at self.now.maps map) (λ m. length k.now ≡ m.shape.key)) }
         ensures kept { IfSome (mapping_at self.now.maps map) IsMapping }
     {
@@ -239,7 +243,8 @@ impl Maps {
         ensures entry { option_map (λ e. (e.0.now, e.1.now)) result
             ≡ entry_after_in self.now.maps map (option_map (λ k. k.now) after.entry) }
         ensures key { IfSome result (λ e. IfSome (mapping_at self.now.maps map) (λ m. length e.0.now ≡ m.shape.key)) }
-        ensures value { IfSome result (λ e. IfSome (mapping_at self.now.maps map) (λ m. length e.1.now ≡ m.shape.value)) }
+        ensures value { IfSome result
+            (λ e. IfSome (mapping_at self.now.maps map) (λ m. length e.1.now ≡ m.shape.value)) }
         ensures kept { IfSome (mapping_at self.now.maps map) IsMapping }
     {
         self.tables.get(map as usize)?.entry_after(after)

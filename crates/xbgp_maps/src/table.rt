@@ -1,5 +1,6 @@
 // One map: a tree of its entries, and a spare node for each entry it has room for, so that no write takes memory.
-ghost use Rattle.std.specs.Prelude.{◌≡◌, ◌<◌, ◌≤◌, [], ◌∷◌, ◌++◌, length, map, nat_le, vec_capacity, None, IsSome, IfOk, IfSome};
+ghost use Rattle.std.specs.Prelude.{◌≡◌, ◌<◌, ◌≤◌, [], ◌∷◌, ◌++◌, length, map, nat_le, vec_capacity};
+ghost use Rattle.std.specs.Prelude.{None, IsSome, IfOk, IfSome};
 ghost use Rattle.std.specs.List.{AllByRecursion};
 ghost use Rattle.std.specs.Option.{option_map};
 ghost use Rattle.xb_words.specs.Table.{entry_after};

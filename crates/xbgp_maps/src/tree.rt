@@ -1,8 +1,8 @@
-// A search tree of entries by rising key: look-ups, writes and removals, each by one way down. A node that is removed is
-// handed out whole and a new entry comes as a node, so no call here takes memory.
+// A search tree of entries by rising key: look-ups, writes and removals, each by one way down. A node that is removed
+// is handed out whole and a new entry comes as a node, so no call here takes memory.
 ghost use Rattle.std.specs.Prelude.{◌≡◌, ◌+◌, ◌≤◌, ◌∷◌, ◌++◌, length, max, None, Some, IsSome};
 ghost use Rattle.std.specs.Option.{option_map};
-ghost use Rattle.xb_words.specs.Table.{entry_after, first as first_of, value_at, with_value, without, IsRising};
+ghost use Rattle.xb_words.specs.Table.{entry_after, first_of, value_at, with_value, without, IsRising};
 ghost use Rattle.xbgp_maps.specs.Mappings.{key_cmp};
 ghost use Rattle.xbgp_maps.specs.Trees.{entries_of, entries_below, entry_of, height_of, HaveWidth, IsAlone};
 ghost use Rattle.xbgp_maps.specs.Trees.{IsBalanced, IsBalancedBelow, IsLow, IsSameOrOneMore, IsTaken};
@@ -111,7 +111,8 @@ fn with_node(tree: Tree, new: Box<Node>) -> Tree
     requires absent { value_at key_cmp (entries_of tree) new.value.key.items ≡ None }
     requires balanced { IsBalanced tree }
     requires low { IsLow (height_of tree) }
-    ensures entries { entries_of result ≡ with_value key_cmp (entries_of tree) new.value.key.items new.value.value.items }
+    ensures entries { entries_of result
+        ≡ with_value key_cmp (entries_of tree) new.value.key.items new.value.value.items }
     ensures balanced { IsBalanced result }
     ensures height { IsSameOrOneMore (height_of tree) (height_of result) }
 {
@@ -140,7 +141,8 @@ pub(crate) fn insert(tree: &mut Tree, new: Box<Node>)
     requires absent { value_at key_cmp (entries_of tree.old) new.value.key.items ≡ None }
     requires balanced { IsBalanced tree.old }
     requires low { IsLow (height_of tree.old) }
-    ensures entries { entries_of tree.new ≡ with_value key_cmp (entries_of tree.old) new.value.key.items new.value.value.items }
+    ensures entries { entries_of tree.new
+        ≡ with_value key_cmp (entries_of tree.old) new.value.key.items new.value.value.items }
     ensures balanced { IsBalanced tree.new }
 {
     *tree = with_node(tree.take(), new);
