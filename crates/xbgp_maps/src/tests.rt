@@ -112,7 +112,7 @@ fn keys_are_walked_in_order_of_octets(rt: HostRuntime) -> Result<(), Fail> {
     assert_eq!(rt; key_after(&maps, &[90]), Some(200));
     assert_eq!(rt; key_after(&maps, &[200]), None);
     assert_eq!(rt; maps.key_after(1, None), None);
-    assert_eq!(rt; value_after(&maps, &[3]), Some(1));
+    assert_eq!(rt; value_after(&maps, &[3]), Some(3));
     assert_eq!(rt; maps.shape(0).map(|shape| shape.entries), Some(3));
     assert!(rt; maps.shape(1).is_none());
     Ok(())
