@@ -1,4 +1,4 @@
-use crate::{Got, LogReader, parse_line};
+use replay_log::{Got, LINE_LIMIT, LogReader, OCTETS_LIMIT, parse_line};
 use std::fs;
 use std::process::Abort;
 use std::test::Fail;
@@ -7,8 +7,8 @@ use xb_values::Buf;
 
 // What a line says for 3 peers and from clock 5 on.
 fn said(rt: &(impl AllocGlobal + Abort), line: &[u8]) -> Result<String, Fail> {
-    assert!(rt; line.len() <= 8400);
-    let mut octets = Buf::make(rt.alloc(), 4200)?;
+    assert!(rt; line.len() <= LINE_LIMIT);
+    let mut octets = Buf::make(rt.alloc(), OCTETS_LIMIT)?;
     let line = parse_line(line, 3, 5, &mut octets);
     Ok(format!(in rt.alloc(); "{line:?}")?)
 }
@@ -78,7 +78,7 @@ fn a_log_is_read_line_by_line(rt: HostRuntime) -> Result<(), Fail> {
     Ok(())
 }
 
-// The name is gone behind the first line; the file that is open is read on.
+// The name is removed after the first line; the file that is open is read on.
 #[test]
 fn a_file_stays_open_between_lines(rt: HostRuntime) -> Result<(), Fail> {
     fs::write(&rt, "log", "start 1\nup 1\n")?;
@@ -124,10 +124,10 @@ fn a_log_that_is_not_held_fails(rt: HostRuntime) -> Result<(), Fail> {
 }
 
 #[test]
-fn a_line_has_8400_octets_at_most(rt: HostRuntime) -> Result<(), Fail> {
+fn a_line_has_a_limit(rt: HostRuntime) -> Result<(), Fail> {
     let mut shelf = MemShelf::make(rt.alloc())?;
-    let line = vec![in rt.alloc(); b'x'; 8401]?;
-    shelf.add("short", &line[..8400])?;
+    let line = vec![in rt.alloc(); b'x'; LINE_LIMIT + 1]?;
+    shelf.add("short", &line[..LINE_LIMIT])?;
     shelf.add("long", &line)?;
     let mut reader = LogReader::make(rt.alloc())?;
     assert_eq!(rt; reader.next_line(&mut shelf, "short"), Got::Line);
