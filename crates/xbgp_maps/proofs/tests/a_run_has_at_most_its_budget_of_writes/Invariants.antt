@@ -1,6 +1,6 @@
 use Rattle.std.proofs.Common.{◌≡◌, [], ◌∷◌, map, IsSome}
 use Rattle.xbgp_maps.specs.Mappings.{shapes_of}
-use Rattle.xbgp_maps.proofs.tests.sixty_four_writes_stand_in_a_run.Given as goal
+use Rattle.xbgp_maps.proofs.tests.a_run_has_at_most_its_budget_of_writes.Given as goal
 
 abbrev pub invariant-writes : goal.invariant-writes
 invariant-writes g l = record {

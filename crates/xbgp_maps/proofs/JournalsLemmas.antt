@@ -1,6 +1,5 @@
 -- A write and a removal are taken back, one alone and many from the last to the first.
 use Rattle.std.proofs.Common.{◌≡◌, ℕ, zero, suc, ◌+◌, ◌-◌, ◌<◌, ◌≤◌, Bool, true, false, IsTrue, if◌then◌else◌, nat_le, is_some, List, [], ◌∷◌, ◌++◌, length, take, Option, Some, None, MatchOption, IfSome, IsSome, refl, sym, ◌∙◌, ap, subst, arith, length-append}
-use Rattle.std.specs.Option.{option_map}
 use Rattle.std.specs.List.{slice_get, slice_set, AllByRecursion}
 use Rattle.std.proofs.lemmas.Cmp.{nat_list_cmp_total}
 use Rattle.std.proofs.lemmas.Map.Lookups.{exact_bytes}
@@ -14,8 +13,9 @@ use Rattle.xbgp_maps.specs.declared.shape.Put.TheVariants as puts
 use Rattle.xbgp_maps.specs.declared.shape.Remove.{Remove}
 use Rattle.xbgp_maps.specs.declared.shape.Remove.TheVariants as removes
 use Rattle.xb_words.specs.Table.{without}
-use Rattle.xbgp_maps.specs.Mappings.{Mapping, IsMapping, Journalled, key_cmp, mapping_at, value_in, put_in, taken_from, put_answer, remove_answer, after_put, after_remove, budget, is_full, written, empty_maps, is_from_1_to, shapes_of, AreWithinLimits}
-use Rattle.xbgp_maps.specs.Journals.{Write, restored, taken_back, all_taken_back, CanTakeBack, CanTakeAllBack, IsNarrow, IsUndoable, seen, when_done, was_put, was_removed}
+use Rattle.xbgp_maps.specs.Mappings.{Mapping, IsMapping, Journalled, key_cmp, mapping_at, value_in, put_in, taken_from, put_answer, remove_answer, after_put, after_remove, is_full, written, empty_maps, is_from_1_to, shapes_of, closed, AreWithinLimits, HasWidths, IsShape}
+use Rattle.xbgp_maps.specs.declared.limits.TheConstants.{MAX_KEY, MAX_VALUE, BUDGET}
+use Rattle.xbgp_maps.specs.Journals.{Write, write_of, restored, taken_back, all_taken_back, CanTakeBack, CanTakeAllBack, IsNarrow, IsUndoable, journal_view, when_done, was_put, was_removed}
 use Rattle.xb_words.proofs.TableLemmas.{value_at-some, without-with_value, with_value-with_value, with_value-without, value_at-with_value, length-without}
 
 get_again : (maps : List Mapping) (n : ℕ) (m after : Mapping) → slice_get maps n ≡ Some m → slice_get (slice_set maps n after) n ≡ Some after
@@ -72,28 +72,24 @@ last_there : (x : Write) (ws : List Write) → slice_get (x ∷ ws) (length ws) 
 last_there x [] none = cc none
 last_there x (y ∷ ws) none = last_there y ws none
 
+-- if there is no last write, there are no writes
 pub no_last : (ws : List Write) → slice_get ws (length ws - 1) ≡ None → ws ≡ []
 no_last [] none = refl
 no_last (x ∷ ws) none =
     let len : suc (length ws) - 1 ≡ length ws = omega arith in
     absurd (last_there x ws (subst (λ n. slice_get (x ∷ ws) n ≡ None) len none))
 
+-- the last write can be taken back
 pub can_take_last : (ws : List Write) (w : Write) (maps : List Mapping) → slice_get ws (length ws - 1) ≡ Some w → CanTakeAllBack ws maps → CanTakeBack w maps
 can_take_last ws w maps last all = (can_pop (take (length ws - 1) ws) w maps (subst (λ vs. CanTakeAllBack vs maps) (cut_last ws w last) all)).1
 
+-- then the writes before it can
 pub can_take_rest : (ws : List Write) (w : Write) (maps : List Mapping) → slice_get ws (length ws - 1) ≡ Some w → CanTakeAllBack ws maps → CanTakeAllBack (take (length ws - 1) ws) (taken_back w maps)
 can_take_rest ws w maps last all = (can_pop (take (length ws - 1) ws) w maps (subst (λ vs. CanTakeAllBack vs maps) (cut_last ws w last) all)).0
 
+-- taking back the last and then the others takes back all
 pub last_then_rest : (ws : List Write) (w : Write) (maps : List Mapping) → slice_get ws (length ws - 1) ≡ Some w → all_taken_back (take (length ws - 1) ws) (taken_back w maps) ≡ all_taken_back ws maps
 last_then_rest ws w maps last = sym (all_back_push (take (length ws - 1) ws) w maps) ∙ sym (ap (λ vs. all_taken_back vs maps) (cut_last ws w last))
-
--- the old value fits into the journal
-pub narrow_old : {B : Type 0} (now : B → List ℕ) (m : Mapping) (k : List ℕ) (o : Option B) → IsMapping m → IsNarrow m → option_map now o ≡ value_in m k → IfSome o (λ b. length (now b) ≤ 256)
-narrow_old now m k None kept narrow is = tt
-narrow_old now m k (Some b) kept narrow is =
-    let entry = value_at-some key_cmp (λ e. (length e.0 ≡ m.shape.key) × (length e.1 ≡ m.shape.value)) m.entries k (now b) kept.widths (sym is) in
-    let bound : m.shape.value ≤ 256 = narrow.value in
-    omega (arith, entry.2.1, bound)
 
 all_at : (P : Mapping → Type 0) (maps : List Mapping) (n : ℕ) (m : Mapping) → slice_get maps n ≡ Some m → AllByRecursion P maps → P m
 all_at P [] n m there a = absurd (cc there)
@@ -126,11 +122,21 @@ narrow_back : (ws : List Write) (maps : List Mapping) → AllByRecursion IsNarro
 narrow_back [] maps narrow = narrow
 narrow_back (w ∷ ws) maps narrow = narrow_back_one w (all_taken_back ws maps) (narrow_back ws maps narrow)
 
+-- maps whose run was undone
 pub undoable_undone : (ws vs : List Write) (maps after : List Mapping) → IsUndoable ws maps → vs ≡ [] → after ≡ all_taken_back ws maps → IsUndoable vs after
 undoable_undone ws vs maps after undoable none is = rw (none, is) (record { back = tt; narrow = narrow_back ws maps undoable.narrow; budget = omega arith })
 
+-- with no write left, the tables are those from before the first
+pub undone_tables : (vs ws : List Write) (now maps : List Mapping) → slice_get vs (length vs - 1) ≡ None → all_taken_back vs now ≡ all_taken_back ws maps → now ≡ all_taken_back ws maps
+undone_tables vs ws now maps none same = ap (λ us. all_taken_back us now) (sym (no_last vs none)) ∙ same
+
+-- the maps as at the begin of a run that was open
+pub undone_is : (is_open : Bool) (ws vs : List Write) (maps after : List Mapping) → after ≡ all_taken_back ws maps → IfSome (journal_view is_open ws maps).began (λ began. journal_view false vs after ≡ closed began)
+undone_is true ws vs maps after is = ap closed is
+undone_is false ws vs maps after is = tt
+
 -- a write that was done can be taken back
-can_put : (maps : List Mapping) (n : ℕ) (m : Mapping) (k v : List ℕ) → slice_get maps n ≡ Some m → IsMapping m → length k ≡ m.shape.key → CanTakeBack (record { map = n; key = k; old = value_in m k }) (slice_set maps n (put_in m k v))
+can_put : (maps : List Mapping) (n : ℕ) (m : Mapping) (k v : List ℕ) → slice_get maps n ≡ Some m → IsMapping m → length k ≡ m.shape.key → CanTakeBack (write_of n m k) (slice_set maps n (put_in m k v))
 can_put maps n m k v there kept width = record {
   exists = simp length-set (slice_get_within maps n m there);
   fits = rw (get_again maps n m (put_in m k v) there) (width, by (value_in m k) refl);
@@ -139,12 +145,12 @@ can_put maps n m k v there kept width = record {
     by : (old : Option (List ℕ)) → value_in m k ≡ old → MatchOption old (Unit {0}) (λ value. (length value ≡ m.shape.value) × (value_in (put_in m k v) k ≡ None → length (put_in m k v).entries < m.shape.entries))
     by None is = tt
     by (Some w) is =
-        let entry = value_at-some key_cmp (λ e. (length e.0 ≡ m.shape.key) × (length e.1 ≡ m.shape.value)) m.entries k w kept.widths is in
+        let entry = value_at-some key_cmp (HasWidths m.shape) m.entries k w kept.widths is in
         (entry.2.1, λ none. absurd (cc (none, value_at-with_value key_cmp nat_list_cmp_total m.entries k v)))
 
-can_remove : (maps : List Mapping) (n : ℕ) (m : Mapping) (k w : List ℕ) → slice_get maps n ≡ Some m → IsMapping m → length k ≡ m.shape.key → value_in m k ≡ Some w → CanTakeBack (record { map = n; key = k; old = value_in m k }) (slice_set maps n (taken_from m k))
+can_remove : (maps : List Mapping) (n : ℕ) (m : Mapping) (k w : List ℕ) → slice_get maps n ≡ Some m → IsMapping m → length k ≡ m.shape.key → value_in m k ≡ Some w → CanTakeBack (write_of n m k) (slice_set maps n (taken_from m k))
 can_remove maps n m k w there kept width is =
-    let entry = value_at-some key_cmp (λ e. (length e.0 ≡ m.shape.key) × (length e.1 ≡ m.shape.value)) m.entries k w kept.widths is in
+    let entry = value_at-some key_cmp (HasWidths m.shape) m.entries k w kept.widths is in
     let fewer : suc (length (without key_cmp m.entries k)) ≡ length m.entries = length-without key_cmp m.entries k w is in
     let room : length m.entries ≤ m.shape.entries = kept.room in
     record {
@@ -152,26 +158,26 @@ can_remove maps n m k w there kept width is =
       fits = rw (get_again maps n m (taken_from m k) there, is) (width, (entry.2.1, λ none. omega (arith, fewer, room)));
     }
 
--- fewer writes than may stand
-below_budget : (n : ℕ) → nat_le budget n ≡ false → n < 64
+-- fewer writes than a run may have
+below_budget : (n : ℕ) → nat_le BUDGET n ≡ false → n < BUDGET
 below_budget n more = omega (arith, leb-false)
 
 -- what a write that was done leaves
-wrote : (ws : List Write) (maps : List Mapping) (n : ℕ) (m after : Mapping) (k : List ℕ) → IsUndoable ws maps → slice_get maps n ≡ Some m → restored after k (value_in m k) ≡ m → IsNarrow after → CanTakeBack (record { map = n; key = k; old = value_in m k }) (slice_set maps n after) → length ws < 64
-    → IsUndoable (ws ++ record { map = n; key = k; old = value_in m k } ∷ []) (slice_set maps n after)
+wrote : (ws : List Write) (maps : List Mapping) (n : ℕ) (m after : Mapping) (k : List ℕ) → IsUndoable ws maps → slice_get maps n ≡ Some m → restored after k (value_in m k) ≡ m → IsNarrow after → CanTakeBack (write_of n m k) (slice_set maps n after) → length ws < BUDGET
+    → IsUndoable (ws ++ write_of n m k ∷ []) (slice_set maps n after)
 wrote ws maps n m after k undoable there back narrow can less =
-    let w : Write = record { map = n; key = k; old = value_in m k } in
+    let w : Write = write_of n m k in
     record {
       back = can_push ws w (slice_set maps n after) (subst (CanTakeAllBack ws) (sym (one_back maps n m after k (value_in m k) there back)) undoable.back) can;
       narrow = all_set IsNarrow maps n after narrow undoable.narrow;
       budget = simp length-append (omega (arith, less));
     }
 
--- the maps as at the begin stay, and one write more stands in the journal
+-- the maps as at the begin stay, and the journal has one more write
 wrote_seen : (is_open : Bool) (ws : List Write) (maps : List Mapping) (n : ℕ) (m after : Mapping) (k : List ℕ) → is_open ≡ true → slice_get maps n ≡ Some m → restored after k (value_in m k) ≡ m
-    → seen is_open (ws ++ record { map = n; key = k; old = value_in m k } ∷ []) (slice_set maps n after) ≡ written (seen is_open ws maps) (slice_set maps n after)
+    → journal_view is_open (ws ++ write_of n m k ∷ []) (slice_set maps n after) ≡ written (journal_view is_open ws maps) (slice_set maps n after)
 wrote_seen is_open ws maps n m after k opened there back =
-    let w : Write = record { map = n; key = k; old = value_in m k } in
+    let w : Write = write_of n m k in
     let began : all_taken_back (ws ++ w ∷ []) (slice_set maps n after) ≡ all_taken_back ws maps =
     all_back_push ws w (slice_set maps n after) ∙ ap (all_taken_back ws) (one_back maps n m after k (value_in m k) there back) in
     let count : length (ws ++ w ∷ []) ≡ length ws + 1 = simp length-append in
@@ -184,31 +190,32 @@ narrow_put m k v n = record { key = n.key; value = n.value }
 narrow_taken : (m : Mapping) (k : List ℕ) → IsNarrow m → IsNarrow (taken_from m k)
 narrow_taken m k n = record { key = n.key; value = n.value }
 
-put_done : (writes : ℕ) (m : Mapping) (k : List ℕ) → put_answer writes m k ≡ puts.Done → nat_le budget writes ≡ false
-put_done writes m k done = by (nat_le budget writes) (is_full m k) done
+put_done : (writes : ℕ) (m : Mapping) (k : List ℕ) → put_answer writes m k ≡ puts.Done → nat_le BUDGET writes ≡ false
+put_done writes m k done = by (nat_le BUDGET writes) (is_full m k) done
   where
     by : (b f : Bool) → (if b then puts.Budget else if f then puts.Full else puts.Done) ≡ puts.Done → b ≡ false
     by true f e = absurd (cc e)
     by false f e = refl
 
-remove_done : (writes : ℕ) (m : Mapping) (k : List ℕ) → remove_answer writes m k ≡ removes.Done → (nat_le budget writes ≡ false) × IsSome (value_in m k)
-remove_done writes m k done = by (nat_le budget writes) (is_some (value_in m k)) refl done
+remove_done : (writes : ℕ) (m : Mapping) (k : List ℕ) → remove_answer writes m k ≡ removes.Done → (nat_le BUDGET writes ≡ false) × IsSome (value_in m k)
+remove_done writes m k done = by (nat_le BUDGET writes) (is_some (value_in m k)) refl done
   where
     by : (b f : Bool) → is_some (value_in m k) ≡ f → (if b then removes.Budget else if f then removes.Done else removes.Absent) ≡ removes.Done → (b ≡ false) × IsSome (value_in m k)
     by true f is e = absurd (cc e)
     by false true is e = (refl, is)
     by false false is e = absurd (cc e)
 
--- what every write leaves, done or not
+-- after a write, done or not, the writes can still be taken back
 pub put_undoable : (ws js : List Write) (maps : List Mapping) (n : ℕ) (m t : Mapping) (k v : List ℕ) (answer : Put) → IsUndoable ws maps → slice_get maps n ≡ Some m → IsMapping m → length k ≡ m.shape.key → answer ≡ put_answer (length ws) m k
-    → t ≡ when_done (was_put answer) (put_in m k v) m → js ≡ when_done (was_put answer) (ws ++ record { map = n; key = k; old = value_in m k } ∷ []) ws → IsUndoable js (slice_set maps n t)
+    → t ≡ when_done (was_put answer) (put_in m k v) m → js ≡ when_done (was_put answer) (ws ++ write_of n m k ∷ []) ws → IsUndoable js (slice_set maps n t)
 put_undoable ws js maps n m t k v puts.Done undoable there kept width answer table journal =
     rw (table, journal) (wrote ws maps n m (put_in m k v) k undoable there (undo_put m k v (value_in m k) kept refl) (narrow_put m k v (all_at IsNarrow maps n m there undoable.narrow)) (can_put maps n m k v there kept width) (below_budget (length ws) (put_done (length ws) m k (sym answer))))
 put_undoable ws js maps n m t k v puts.Full undoable there kept width answer table journal = rw (table, journal, set_same maps n m there) undoable
 put_undoable ws js maps n m t k v puts.Budget undoable there kept width answer table journal = rw (table, journal, set_same maps n m there) undoable
 
+-- what contracts see after a write
 pub put_seen : (is_open : Bool) (ws js : List Write) (maps : List Mapping) (n : ℕ) (m t : Mapping) (k v : List ℕ) (answer : Put) → is_open ≡ true → slice_get maps n ≡ Some m → IsMapping m
-    → t ≡ when_done (was_put answer) (put_in m k v) m → js ≡ when_done (was_put answer) (ws ++ record { map = n; key = k; old = value_in m k } ∷ []) ws → seen is_open js (slice_set maps n t) ≡ after_put (seen is_open ws maps) n m k v answer
+    → t ≡ when_done (was_put answer) (put_in m k v) m → js ≡ when_done (was_put answer) (ws ++ write_of n m k ∷ []) ws → journal_view is_open js (slice_set maps n t) ≡ after_put (journal_view is_open ws maps) n m k v answer
 put_seen is_open ws js maps n m t k v puts.Done opened there kept table journal = rw (table, journal) (wrote_seen is_open ws maps n m (put_in m k v) k opened there (undo_put m k v (value_in m k) kept refl))
 put_seen is_open ws js maps n m t k v puts.Full opened there kept table journal = rw (table, journal, set_same maps n m there) refl
 put_seen is_open ws js maps n m t k v puts.Budget opened there kept table journal = rw (table, journal, set_same maps n m there) refl
@@ -220,8 +227,9 @@ some_value (Some w) some = (w, refl)
 undo_taken : (m : Mapping) (k : List ℕ) → IsMapping m → IsSome (value_in m k) → restored (taken_from m k) k (value_in m k) ≡ m
 undo_taken m k kept some = let at = some_value (value_in m k) some in rw at.1 (undo_remove m k at.0 kept at.1)
 
+-- the same after a removal
 pub remove_undoable : (ws js : List Write) (maps : List Mapping) (n : ℕ) (m t : Mapping) (k : List ℕ) (answer : Remove) → IsUndoable ws maps → slice_get maps n ≡ Some m → IsMapping m → length k ≡ m.shape.key → answer ≡ remove_answer (length ws) m k
-    → t ≡ when_done (was_removed answer) (taken_from m k) m → js ≡ when_done (was_removed answer) (ws ++ record { map = n; key = k; old = value_in m k } ∷ []) ws → IsUndoable js (slice_set maps n t)
+    → t ≡ when_done (was_removed answer) (taken_from m k) m → js ≡ when_done (was_removed answer) (ws ++ write_of n m k ∷ []) ws → IsUndoable js (slice_set maps n t)
 remove_undoable ws js maps n m t k removes.Done undoable there kept width answer table journal =
     let done = remove_done (length ws) m k (sym answer) in
     let at = some_value (value_in m k) done.1 in
@@ -229,28 +237,30 @@ remove_undoable ws js maps n m t k removes.Done undoable there kept width answer
 remove_undoable ws js maps n m t k removes.Absent undoable there kept width answer table journal = rw (table, journal, set_same maps n m there) undoable
 remove_undoable ws js maps n m t k removes.Budget undoable there kept width answer table journal = rw (table, journal, set_same maps n m there) undoable
 
+-- what contracts see after a removal
 pub remove_seen : (is_open : Bool) (ws js : List Write) (maps : List Mapping) (n : ℕ) (m t : Mapping) (k : List ℕ) (answer : Remove) → is_open ≡ true → slice_get maps n ≡ Some m → IsMapping m → answer ≡ remove_answer (length ws) m k
-    → t ≡ when_done (was_removed answer) (taken_from m k) m → js ≡ when_done (was_removed answer) (ws ++ record { map = n; key = k; old = value_in m k } ∷ []) ws → seen is_open js (slice_set maps n t) ≡ after_remove (seen is_open ws maps) n m k answer
+    → t ≡ when_done (was_removed answer) (taken_from m k) m → js ≡ when_done (was_removed answer) (ws ++ write_of n m k ∷ []) ws → journal_view is_open js (slice_set maps n t) ≡ after_remove (journal_view is_open ws maps) n m k answer
 remove_seen is_open ws js maps n m t k removes.Done opened there kept answer table journal = rw (table, journal) (wrote_seen is_open ws maps n m (taken_from m k) k opened there (undo_taken m k kept (remove_done (length ws) m k (sym answer)).1))
 remove_seen is_open ws js maps n m t k removes.Absent opened there kept answer table journal = rw (table, journal, set_same maps n m there) refl
 remove_seen is_open ws js maps n m t k removes.Budget opened there kept answer table journal = rw (table, journal, set_same maps n m there) refl
 
-narrow_empty : (shapes : List MapShape) → AllByRecursion (λ s. IsTrue (is_from_1_to 64 s.key) × IsTrue (is_from_1_to 256 s.value) × IsTrue (is_from_1_to 65536 s.entries)) shapes → AllByRecursion IsNarrow (empty_maps shapes)
+narrow_empty : (shapes : List MapShape) → AllByRecursion IsShape shapes → AllByRecursion IsNarrow (empty_maps shapes)
 narrow_empty [] ranges = tt
-narrow_empty (s ∷ shapes) ranges = (record { key = upper 64 s.key ranges.0.0; value = upper 256 s.value ranges.0.1 }, narrow_empty shapes ranges.1)
+narrow_empty (s ∷ shapes) ranges = (record { key = upper MAX_KEY s.key ranges.0.0; value = upper MAX_VALUE s.value ranges.0.1 }, narrow_empty shapes ranges.1)
   where
     upper : (most n : ℕ) → IsTrue (is_from_1_to most n) → n ≤ most
     upper most n is = grind (arith, nat_tests)
 
+-- maps without entries
 pub undoable_empty : (ws : List Write) (maps : List Mapping) (shapes : List MapShape) → AreWithinLimits shapes → ws ≡ [] → maps ≡ empty_maps shapes → IsUndoable ws maps
 undoable_empty ws maps shapes limits none is = rw (none, is) (record { back = tt; narrow = narrow_empty shapes limits.ranges; budget = omega arith })
 
--- a run is open where the maps as at its begin are seen
+-- a run is open if contracts see the maps as at its begin
 pub is_opened : (is_open : Bool) (maps : List Mapping) → IsSome (if is_open then Some maps else None) → is_open ≡ true
 is_opened true maps some = refl
 is_opened false maps some = absurd (cc some)
 
--- a map that takes the place of one of its own shape changes no shape
+-- replacing a map by one of the same shape changes no shape
 shapes_set : (maps : List Mapping) (n : ℕ) (m t : Mapping) → slice_get maps n ≡ Some m → t.shape ≡ m.shape → shapes_of (slice_set maps n t) ≡ shapes_of maps
 shapes_set [] n m t there same = absurd (cc there)
 shapes_set (x ∷ xs) zero m t there same =
@@ -273,20 +283,23 @@ shapes_back : (ws : List Write) (maps : List Mapping) → shapes_of (all_taken_b
 shapes_back [] maps = refl
 shapes_back (w ∷ ws) maps = shapes_back_one w (all_taken_back ws maps) ∙ shapes_back ws maps
 
+-- an undo changes no shape
 pub undone_shapes : (ws : List Write) (maps after : List Mapping) → after ≡ all_taken_back ws maps → shapes_of after ≡ shapes_of maps
 undone_shapes ws maps after is = ap shapes_of is ∙ shapes_back ws maps
 
+-- a write changes no shape
 pub put_shapes : (maps : List Mapping) (n : ℕ) (m t : Mapping) (k v : List ℕ) (answer : Put) → slice_get maps n ≡ Some m → t ≡ when_done (was_put answer) (put_in m k v) m → shapes_of (slice_set maps n t) ≡ shapes_of maps
 put_shapes maps n m t k v puts.Done there table = shapes_set maps n m t there (ap (λ (x : Mapping). x.shape) table)
 put_shapes maps n m t k v puts.Full there table = shapes_set maps n m t there (ap (λ (x : Mapping). x.shape) table)
 put_shapes maps n m t k v puts.Budget there table = shapes_set maps n m t there (ap (λ (x : Mapping). x.shape) table)
 
+-- a removal changes no shape
 pub remove_shapes : (maps : List Mapping) (n : ℕ) (m t : Mapping) (k : List ℕ) (answer : Remove) → slice_get maps n ≡ Some m → t ≡ when_done (was_removed answer) (taken_from m k) m → shapes_of (slice_set maps n t) ≡ shapes_of maps
 remove_shapes maps n m t k removes.Done there table = shapes_set maps n m t there (ap (λ (x : Mapping). x.shape) table)
 remove_shapes maps n m t k removes.Absent there table = shapes_set maps n m t there (ap (λ (x : Mapping). x.shape) table)
 remove_shapes maps n m t k removes.Budget there table = shapes_set maps n m t there (ap (λ (x : Mapping). x.shape) table)
 
--- what is seen of the begin, where the answer is one that the write gives
+-- the maps as at the begin stay after a write, whatever it returns
 put_began : (j : Journalled) (n : ℕ) (m : Mapping) (k v : List ℕ) (answer : Put) → (after_put j n m k v answer).began ≡ j.began
 put_began j n m k v puts.Done = refl
 put_began j n m k v puts.Full = refl
@@ -297,8 +310,10 @@ remove_began j n m k removes.Done = refl
 remove_began j n m k removes.Absent = refl
 remove_began j n m k removes.Budget = refl
 
+-- a write leaves the maps as at the begin
 pub began_after_put : (j after : Journalled) (n : ℕ) (m : Mapping) (k v : List ℕ) (answer : Put) → after ≡ after_put j n m k v answer → after.began ≡ j.began
 began_after_put j after n m k v answer is = ap (λ (x : Journalled). x.began) is ∙ put_began j n m k v answer
 
+-- so does a removal
 pub began_after_remove : (j after : Journalled) (n : ℕ) (m : Mapping) (k : List ℕ) (answer : Remove) → after ≡ after_remove j n m k answer → after.began ≡ j.began
 began_after_remove j after n m k answer is = ap (λ (x : Journalled). x.began) is ∙ remove_began j n m k answer
