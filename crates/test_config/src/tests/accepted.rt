@@ -1,4 +1,4 @@
-//! What accepted configurations have.
+// What accepted configurations hold.
 use std::test::Fail;
 use xb_domain::Side;
 use xb_values::Prefix;
