@@ -3,8 +3,8 @@ use Rattle.std.specs.Prelude.{ℕ}
 use Rattle.xbgp_top.specs.declared.status.File.{File}
 use Rattle.xbgp_top.specs.declared.status.Status.{Status}
 use Rattle.xbgp_top.specs.declared.status.Status.TheVariants.{Done, Usage, ReadFault, WriteFault, OutOfMemory, TooLong, BadConfig, BadManifest, BadStream, BadCode}
-use Rattle.xbgp_config.specs.declared.fault.ConfigError.{ConfigError}
-use Rattle.xbgp_config.specs.declared.fault.ConfigError.TheVariants as configs
+use Rattle.xb_fields.specs.declared.fault.FieldError.{FieldError}
+use Rattle.xb_fields.specs.declared.fault.FieldError.TheVariants as configs
 use Rattle.xbgp_manifest.specs.declared.fault.ManifestError.{ManifestError}
 use Rattle.xbgp_manifest.specs.declared.fault.ManifestError.TheVariants as manifests
 use Rattle.bpf_insn.specs.declared.fault.LoadError.{LoadError}
@@ -24,7 +24,7 @@ status_code (BadStream at) = 10
 status_code (BadCode fault) = 11
 
 -- why there is no configuration
-abbrev pub config_status : ConfigError → Status
+abbrev pub config_status : FieldError → Status
 config_status configs.OutOfMemory = OutOfMemory
 config_status (configs.Bad fault) = BadConfig fault
 

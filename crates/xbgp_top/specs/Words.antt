@@ -5,7 +5,7 @@ use Rattle.xb_domain.specs.declared.bad.BadKind.TheVariants as kinds
 use Rattle.xb_domain.specs.declared.bad.Part.{Part}
 use Rattle.xb_domain.specs.declared.bad.Part.TheVariants as parts
 use Rattle.bpf_insn.specs.declared.fault.LoadKind.{LoadKind}
-use Rattle.xbgp_manifest.specs.Manifests.{kind_of}
+use Rattle.xbgp_manifest.specs.Manifests.{load_kind}
 use Rattle.xbgp_top.specs.declared.status.File.{File}
 use Rattle.xbgp_top.specs.declared.status.File.TheVariants as files
 
@@ -42,7 +42,7 @@ part_word parts.Program = codes "program"
 
 -- why bytecode is refused
 abbrev pub load_word : LoadKind → List ℕ
-load_word kind = kind_word (kind_of kind)
+load_word kind = kind_word (load_kind kind)
 
 -- an input
 abbrev pub file_word : File → List ℕ
