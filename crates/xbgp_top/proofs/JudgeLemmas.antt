@@ -6,7 +6,8 @@ use Rattle.std.proofs.Math.Dec.{eqb-suc-zero}
 use Rattle.xb_words.specs.Cut.{walk, walk_from, with_offsets}
 use Rattle.xb_wire.specs.Messages.{split}
 use Rattle.bgp_update.specs.Walks.{FoundMessage, found_message, messages_from}
-use Rattle.xbgp_top.specs.Answers.{judge_line, judge_lines, messages_of, rest_offset}
+use Rattle.xbgp_top.specs.declared.status.Status.TheVariants.{Done, BadStream}
+use Rattle.xbgp_top.specs.Answers.{Answer, Outcome, answered, end_line, ended, judge_line, judge_lines, judge_outcome, messages_of, rest_offset}
 
 -- the offset at which the walk is refused, if it is
 abbrev pub rest_of : List (Result FoundMessage ℕ) → Option ℕ
@@ -47,3 +48,9 @@ lines_of_walk at (m ∷ items) rest = ap (λ l. judge_line (found_message at m) 
 pub all_lines : (s : List ℕ) → lines_of (messages_from 0 s) ≡ judge_lines s
 unfolding walk_from
 all_lines s = lines_of_walk 0 (split s).items (split s).rest
+
+-- a stream of whole messages
+pub judge_outcome-none : (octets : List ℕ) → rest_offset octets ≡ None → ended (judge_outcome octets) ≡ answered Done (judge_lines octets ++ end_line)
+judge_outcome-none octets e =
+    let by : Option ℕ → Outcome (List ℕ) = λ o. elim o as (λ x. Outcome (List ℕ)) [ None ↦ Ok (judge_lines octets ++ end_line) | Some at ↦ Err (BadStream at) ] in
+    ap (λ (o : Option ℕ). ended (by o)) e

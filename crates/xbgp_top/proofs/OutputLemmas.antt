@@ -1,12 +1,18 @@
 -- Lines that are gathered one after another, and then written.
-use Rattle.std.proofs.Common.{◌≡◌, ℕ, List, [], ◌++◌, length, take, Option, Result, Ok, Err, refl, sym, ◌∙◌, ap, subst, arith}
+use Rattle.std.proofs.Common.{◌≡◌, ℕ, List, [], ◌++◌, length, take, Option, Result, Ok, Err, refl, sym, ◌∙◌, ap, subst, inl, inr, arith}
 use Rattle.std.specs.Result.{IsErrAnd}
 use Rattle.std.proofs.lemmas.List.{take_at}
-use Rattle.xb_io.specs.Causes.{with_text}
+use Rattle.std.proofs.Math.Seq.{take-length}
+use Rattle.xb_io.specs.Causes.{TookFront, with_text}
 use Rattle.xb_io.specs.Pages.{Gathered, Gathers, Puts, Stops}
 use Rattle.xb_io.specs.declared.page.Halt.{Halt}
 use Rattle.xb_io.specs.declared.page.Halt.TheVariants.{OutOfMemory}
-use Rattle.xb_io.proofs.PageLemmas.{gathered_then, gathers_then, puts_gathered, stops_page, stops_then}
+use Rattle.xb_io.specs.declared.page.Halt.TheVariants as halts
+use Rattle.xb_io.proofs.PageLemmas.{gathered_then, gathers_then, puts_gathered, stops_append, stops_then}
+use Rattle.xbgp_top.specs.declared.status.Status.{Status}
+use Rattle.xbgp_top.specs.declared.status.Status.TheVariants.{Done}
+use Rattle.xbgp_top.specs.Answers.{Answer, answered}
+use Rattle.xbgp_top.specs.Outputs.{Writes, end_status}
 
 module _ {K : Type 0} (took : K → Option (List ℕ)) (faults : K → ℕ) where
   -- there was no memory for the next line
@@ -42,7 +48,7 @@ module _ {K : Type 0} (took : K → Option (List ℕ)) (faults : K → ℕ) wher
   -- the gathering of lines on an empty page ended early, and no end follows
   pub stops_lines : (old new : K) (first lines end : List ℕ) (halt : Halt) → first ≡ [] → Stops took faults old new (first ++ lines) halt → Stops took faults old new (lines ++ end) halt
   stops_lines old new first lines end halt empty s =
-      stops_page took faults old new lines end halt (subst (λ f. Stops took faults old new (f ++ lines) halt) empty s)
+      stops_append took faults old new [] lines end halt (subst (λ f. Stops took faults old new (f ++ lines) halt) empty s)
 
   -- lines were gathered on an empty page, and the gathering of the end ended early
   pub stops_end : (old mid new : K) (first lines page next end : List ℕ) (halt : Halt) → first ≡ [] → Gathered took faults old mid (first ++ lines) page []
@@ -57,3 +63,41 @@ module _ {K : Type 0} (took : K → Option (List ℕ)) (faults : K → ℕ) wher
       let all : Gathered took faults old late (lines ++ end) next [] =
       gathers_then took faults old mid late [] page next lines end (Ok tt) (subst (λ f. Gathered took faults old mid (f ++ lines) page []) empty g) h in
       puts_gathered took faults old late new [] (lines ++ end) next result refl all (subst (λ t. Puts took faults late new t result) same p)
+
+  -- a text was written, or that ended early, and the status says which
+  pub writes_text : (old new : K) (text : List ℕ) (end : Result (Unit {0}) Halt) (answer : Answer) (status : Status) → answer ≡ answered Done text → status ≡ end_status end Done
+      → Puts took faults old new text end → Writes answer took faults old new status
+  writes_text old new text end answer status is e p =
+      subst (λ (a : Answer). Writes a took faults old new status) (sym is) (subst (λ (s : Status). Writes (answered Done text) took faults old new s) (sym e) (by end p))
+    where
+      all_of : took new ≡ with_text (took old) text → TookFront (took old) (took new) text
+      all_of e = (length text, e ∙ ap (with_text (took old)) (sym (take-length text)))
+
+      by : (end : Result (Unit {0}) Halt) → Puts took faults old new text end → Writes (answered Done text) took faults old new (end_status end Done)
+      by (Ok done) p =
+          record {
+            only = inl refl;
+            whole = λ a b. p.0;
+            front = all_of p.0;
+            fault = λ f. absurd (cc f);
+            quiet = λ a b. p.1;
+            later = omega (arith, p.1);
+          }
+      by (Err halts.WriteFault) s =
+          record {
+            only = inr (inl refl);
+            whole = λ a b. absurd (a refl);
+            front = s.front;
+            fault = λ f. inr (s.fault refl);
+            quiet = λ a b. absurd (a refl);
+            later = s.later;
+          }
+      by (Err halts.OutOfMemory) s =
+          record {
+            only = inr (inr refl);
+            whole = λ a b. absurd (b refl);
+            front = s.front;
+            fault = λ f. absurd (cc f);
+            quiet = λ a b. absurd (b refl);
+            later = s.later;
+          }

@@ -1,6 +1,7 @@
 -- How a step over a shelf and one over a sink make a run.
-use Rattle.std.proofs.Common.{◌≡◌, ◌≢◌, ◌⊎◌, ℕ, zero, suc, List, [], take, Option, Some, None, Ok, Err, refl, sym, ◌∙◌, ap, subst, inl, inr}
-use Rattle.std.specs.Result.{IfErr, result_map_both}
+use Rattle.std.proofs.Common.{◌≡◌, ◌≢◌, ◌⊎◌, ℕ, List, [], Option, Some, None, ◌++◌, Ok, Err, refl, sym, ◌∙◌, ap, subst, inl, inr, arith}
+use Rattle.std.specs.Result.{IfErr}
+use Rattle.std.proofs.lemmas.List.{take_all}
 use Rattle.xb_values.specs.Texts.{line}
 use Rattle.xb_io.specs.Causes.{Files, FaultsRose, TookFront, with_text}
 use Rattle.bgp_update.specs.Heard.{heard}
@@ -25,11 +26,14 @@ IsOfInput status = Unit {0}
 
 of_input : (job : Job) (octets : List ℕ) → IfErr (job_outcome job octets) IsOfInput
 of_input Heard octets =
-    elim (heard octets) as (λ r. IfErr (result_map_both (λ table. table_lines table ++ end_line) BadStream r) IsOfInput) [ Ok table ↦ tt | Err at ↦ tt ]
+    elim (heard octets) as (λ r. IfErr (elim r as (λ x. Outcome (List ℕ)) [ Ok table ↦ Ok (table_lines table ++ end_line) | Err at ↦ Err (BadStream at) ]) IsOfInput) [ Ok table ↦ tt | Err at ↦ tt ]
 of_input Judge octets =
     elim (rest_offset octets) as (λ o. IfErr (elim o as (λ x. Outcome (List ℕ)) [ None ↦ Ok (judge_lines octets ++ end_line) | Some at ↦ Err (BadStream at) ]) IsOfInput) [ None ↦ tt | Some at ↦ tt ]
 of_input Exec octets =
     elim (load_fault no_helper octets) as (λ o. IfErr (elim o as (λ x. Outcome (List ℕ)) [ None ↦ Ok (line (end_words (alone octets)) ++ end_line) | Some fault ↦ Err (BadCode fault) ]) IsOfInput) [ None ↦ tt | Some fault ↦ tt ]
+
+abbrev stopped_by : Status → Outcome (List ℕ)
+stopped_by status = Err status
 
 -- what a step over the shelf gives, and what follows from it
 module _ {S : Type 0} (held : S → Option Files) (faults : S → ℕ) (old new : S) (want : Files → Outcome (List ℕ)) (go : List ℕ → Outcome (List ℕ)) where
@@ -57,7 +61,7 @@ module _ {S : Type 0} (held : S → Option Files) (faults : S → ℕ) (old new 
   obtains_stop : (status : Status) → Obtains held faults old new want (Err status) → Obtains held faults old new (λ files. want files >>= go) (Err status)
   obtains_stop status first =
       record {
-        told = λ files e. elim (first.told files e) as (λ _. Gives (want files >>= go) (Err status) ⊎ ((Err {T = List ℕ} status ≡ Err ReadFault) × FaultsRose (faults old) (faults new))) [
+        told = λ files e. elim (first.told files e) as (λ _. Gives (want files >>= go) (Err status) ⊎ ((stopped_by status ≡ stopped_by ReadFault) × FaultsRose (faults old) (faults new))) [
           | inl gives ↦ inl (stopped (want files) gives)
           | inr read ↦ inr read
         ];
@@ -121,19 +125,15 @@ module _ {S K : Type 0} (held : S → Option Files) (reads : S → ℕ) (took : 
       as_wanted x (Err s) (inl memory) = inl (ap Err memory)
       as_wanted x (Err s) (inr e) = inr e
 
-      take_none : (n : ℕ) → take n [] ≡ ([] {A = ℕ})
-      take_none zero = refl
-      take_none (suc n) = refl
-
       nothing : (text : List ℕ) → TookFront (took sink_old) (took sink_new) [] → TookFront (took sink_old) (took sink_new) text
-      nothing text front = (0, front.1 ∙ ap (with_text (took sink_old)) (take_none front.0))
+      nothing text front = (0, front.1 ∙ ap (with_text (took sink_old)) (take_all front.0 [] (omega arith)))
 
       read_fault : got ≡ Err ReadFault → (h : Option Files) → held shelf_old ≡ h → FaultsRose (reads shelf_old) (reads shelf_new) ⊎ SaysMissing h (λ files. ended (want files))
       read_fault got_is None e = inl (o.cause e got_is)
       read_fault got_is (Some files) e =
           elim (o.told files e) as (λ _. FaultsRose (reads shelf_old) (reads shelf_new) ⊎ ((ended (want files)).status ≡ ReadFault)) [
             | inl gives ↦ elim (as_wanted (want files) got gives) as (λ _. FaultsRose (reads shelf_old) (reads shelf_new) ⊎ ((ended (want files)).status ≡ ReadFault)) [
-              | inl none ↦ absurd (let f : Err {T = List ℕ} OutOfMemory ≡ Err ReadFault = sym none ∙ got_is in cc f)
+              | inl none ↦ absurd (let f : stopped_by OutOfMemory ≡ stopped_by ReadFault = sym none ∙ got_is in cc f)
               | inr is ↦ inr (ap (λ (x : Outcome (List ℕ)). (ended x).status) (is ∙ got_is))
             ]
             | inr read ↦ inl read.1

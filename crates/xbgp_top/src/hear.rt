@@ -47,10 +47,10 @@ fn gather_table<K: Sink>(
 {
     let mut line = Buf::make(alloc, LINE)?;
     let mut last = None;
-    'entries: while let Some((prefix, section)) = table.after(last) {
-        write_entry(alloc, &mut line, prefix, section)?;
+    'entries: while let Some(entry) = table.after(last) {
+        write_entry(alloc, &mut line, entry.0, entry.1)?;
         gather(page, line.as_slice(), sink)?;
-        last = Some(prefix);
+        last = Some(entry.0);
     }
     Ok(())
 }

@@ -15,7 +15,7 @@ messages-init g c =
 
 pub returns-in_err-write_verdict : goal.returns-in_err-write_verdict
 returns-in_err-write_verdict g c =
-    gathers_stopped g.K.Sink.took g.K.Sink.faults _ _ c.args.page.now.octets c.messages.page.octets (judge_lines c.args.octets.now) OutOfMemory _ c.from_residual-in_err-write_verdict.ensures
+    gathers_stopped g.K.Sink.took g.K.Sink.faults _ _ c.args.page.now.octets c.messages.page.octets (judge_lines c.args.octets.now) OutOfMemory _ c.from_residual-in_err-write_verdict.ensures.1
     (stops_memory g.K.Sink.took g.K.Sink.faults _ _ _ _ _ c.messages.invariant)
 
 pub returns-in_err-gather : goal.returns-in_err-gather
