@@ -136,7 +136,7 @@ impl<'a> Packer<'a> {
 
     /// Appends a prefix to the others. It is false exactly if the message would have more than 4,096 octets, and then
     /// nothing changed.
-    #[tactic(auto, using(crate::proofs::PackingLemmas::packing_grown))]
+    #[tactic(auto, using(crate::proofs::PackingLemmas::insert_rules))]
     pub fn push(&mut self, prefix: Prefix) -> bool
         ensures same_reference { reference_of self.new ≡ reference_of self.old }
         ensures capacity { (buffer_of self.new).capacity ≡ (buffer_of self.old).capacity }
