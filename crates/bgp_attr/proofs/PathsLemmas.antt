@@ -4,7 +4,7 @@ use Rattle.std.proofs.lemmas.Bool.{and_parts, leb-true}
 use Rattle.std.proofs.lemmas.Option.{cond_some}
 use Rattle.std.specs.Prelude.{◌&&◌, ◌||◌, ◌==◌, nat_le, slice_index}
 use Rattle.xb_words.specs.Cut.{Pieces, IsSize, cut}
-use Rattle.xb_words.proofs.Cutting.{cut-some, cut-none}
+use Rattle.xb_words.proofs.CutLemmas.{cut-some, cut-none}
 use Rattle.bgp_attr.specs.declared.segments.TheConstants.{AS_SET, AS_SEQUENCE}
 use Rattle.bgp_attr.specs.Paths.{segment_size}
 

@@ -5,9 +5,9 @@ use Rattle.std.proofs.lemmas.List.{length-append, append-nil, take_at, drop_at}
 use Rattle.std.proofs.Math.Seq.{take-length}
 use Rattle.std.specs.Prelude.{Result, Ok, Err}
 use Rattle.std.specs.List.{concat, AllByRecursion}
-use Rattle.xb_words.specs.Cut.{cut, placed, walk, walk_from}
-use Rattle.xb_words.proofs.Cutting.{cut-join, cut-rest}
-use Rattle.xb_words.proofs.Walking.{walk-some, walk-error, walk-nil}
+use Rattle.xb_words.specs.Cut.{cut, with_offsets, walk, walk_from}
+use Rattle.xb_words.proofs.CutLemmas.{concat-cut, size-cut-rest}
+use Rattle.xb_words.proofs.CutLemmas.{walk_from-some, walk_from-error, walk_from-nil}
 use Rattle.bgp_attr.specs.declared.attrs.Overrun.{Overrun}
 use Rattle.bgp_attr.specs.Attributes.{attribute_size}
 use Rattle.bgp_attr.specs.Walks.{FoundAttr, found_attr, overrun, attributes_from, raws, walk_end, MatchesSection, attributes_join, attributes_match, attributes_walked}
@@ -15,15 +15,15 @@ use Rattle.bgp_attr.proofs.AttributesLemmas.{IsSize-attribute_size}
 
 -- a whole attribute at the front is the next step
 pub attributes_from-some : (at : ℕ) (s : List ℕ) (n : ℕ) → attribute_size s ≡ Some n → attributes_from at s ≡ Ok (found_attr at (take n s)) ∷ attributes_from (at + n) (drop n s)
-attributes_from-some = walk-some attribute_size IsSize-attribute_size found_attr overrun
+attributes_from-some = walk_from-some attribute_size IsSize-attribute_size found_attr overrun
 
 -- octets that begin with no whole attribute are an overrun, and the walk ends
 pub attributes_from-overrun : (at : ℕ) (s : List ℕ) → attribute_size s ≡ None → 0 < length s → attributes_from at s ≡ Err (overrun at) ∷ []
-attributes_from-overrun = walk-error attribute_size IsSize-attribute_size found_attr overrun
+attributes_from-overrun = walk_from-error attribute_size IsSize-attribute_size found_attr overrun
 
 -- the walk over an empty section is over
 pub attributes_from-nil : (at : ℕ) (s : List ℕ) → length s ≡ 0 → attributes_from at s ≡ []
-attributes_from-nil = walk-nil attribute_size IsSize-attribute_size found_attr overrun
+attributes_from-nil = walk_from-nil attribute_size IsSize-attribute_size found_attr overrun
 
 -- one step of the walk
 pub ruleset walk_steps = (attributes_from-some, attributes_from-overrun, attributes_from-nil)
@@ -48,7 +48,7 @@ pub attributes_join_holds : attributes_join
 unfolding walk_from
 attributes_join_holds section =
     let p = cut attribute_size section in
-    raws-walk 0 p.items p.rest ∙ sym (take-walk_end section [] p.items p.rest 0 refl (cut-join attribute_size section))
+    raws-walk 0 p.items p.rest ∙ sym (take-walk_end section [] p.items p.rest 0 refl (concat-cut attribute_size section))
 
 MatchesSection-walk : (s before : List ℕ) (xs : List (List ℕ)) (rest : List ℕ) (at : ℕ) → length before ≡ at → before ++ (concat xs ++ rest) ≡ s
     → attribute_size rest ≡ None → AllByRecursion (MatchesSection s) (walk found_attr overrun at xs rest)
@@ -67,10 +67,10 @@ pub attributes_match_holds : attributes_match
 unfolding walk_from
 attributes_match_holds section =
     let p = cut attribute_size section in
-    MatchesSection-walk section [] p.items p.rest 0 refl (cut-join attribute_size section) (cut-rest attribute_size IsSize-attribute_size section)
+    MatchesSection-walk section [] p.items p.rest 0 refl (concat-cut attribute_size section) (size-cut-rest attribute_size IsSize-attribute_size section)
 
 walk-placed : (at : ℕ) (xs : List (List ℕ)) (rest : List ℕ) → length rest ≡ 0
-    → walk found_attr overrun at xs rest ≡ map {B = Result FoundAttr Overrun} (λ p. Ok (found_attr p.0 p.1)) (placed at xs)
+    → walk found_attr overrun at xs rest ≡ map {B = Result FoundAttr Overrun} (λ p. Ok (found_attr p.0 p.1)) (with_offsets at xs)
 walk-placed at [] [] e = refl
 walk-placed at [] (b ∷ rest) e = absurd (omega (arith, e))
 walk-placed at (x ∷ xs) rest e = ap (λ (t : List (Result FoundAttr Overrun)). Ok (found_attr at x) ∷ t) (walk-placed (at + length x) xs rest e)

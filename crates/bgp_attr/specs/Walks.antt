@@ -1,7 +1,7 @@
 -- What a walk over the attributes of a section returns (RFC 4271, section 4.3), as a list of what is still to come.
 use Rattle.std.specs.Prelude.{◌≡◌, ℕ, true, List, [], ◌∷◌, ◌++◌, length, take, drop, map, None, Result, Ok, Err}
 use Rattle.std.specs.List.{AllByRecursion}
-use Rattle.xb_words.specs.Cut.{placed, walk_from}
+use Rattle.xb_words.specs.Cut.{with_offsets, walk_from}
 use Rattle.bgp_attr.specs.declared.attrs.Overrun.{Overrun}
 use Rattle.bgp_attr.specs.Attributes.{attributes, attribute_size, is_whole, attr_flags, attr_code, attr_value}
 
@@ -55,4 +55,4 @@ attributes_match = (section : List ℕ) → AllByRecursion (MatchesSection secti
 abbrev pub attributes_walked : Type 0
 attributes_walked =
     (section : List ℕ) (at : ℕ) → is_whole section ≡ true
-    → attributes_from at section ≡ map (λ p. Ok (found_attr p.0 p.1)) (placed at (attributes section))
+    → attributes_from at section ≡ map (λ p. Ok (found_attr p.0 p.1)) (with_offsets at (attributes section))

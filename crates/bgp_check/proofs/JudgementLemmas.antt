@@ -11,8 +11,8 @@ use Rattle.std.specs.List.{concat, list_any}
 use Rattle.xb_words.specs.Cut.{cut, walk, walk_from}
 use Rattle.xb_words.specs.Octets.{two_at}
 use Rattle.xb_words.specs.Optional.{or_else}
-use Rattle.xb_words.proofs.Cutting.{cut-join}
-use Rattle.xb_words.proofs.Ranges.{length-range}
+use Rattle.xb_words.proofs.CutLemmas.{concat-cut}
+use Rattle.xb_words.proofs.ListLemmas.{length-slice_range}
 use Rattle.xb_wire.specs.declared.numbers.TheConstants.{MALFORMED_ATTRIBUTE_LIST}
 use Rattle.xb_wire.specs.Messages.{Notification, Update, lengths_fit, update_of, update_parts}
 use Rattle.xb_values.specs.Prefixes.{Prefix, prefix_at, prefix_size, are_prefixes}
@@ -209,7 +209,7 @@ IfSome-attributes w m (x ∷ items) h =
 first_check-data : (w m : ℕ) (section : List ℕ) → length section ≤ m → IfSome (first_check (map (attribute_check w) (attributes section))) (HasData m)
 first_check-data w m section h =
     let p = cut attribute_size section in
-    let whole = ap length (cut-join attribute_size section) in
+    let whole = ap length (concat-cut attribute_size section) in
     IfSome-attributes w m p.items (omega (arith, h, whole, length-append (concat p.items) p.rest))
 
 IfSome-missing : (m : ℕ) (announces : Bool) (code : Option ℕ) → (announces ≡ true → 1 ≤ m) → IfSome (if announces then option_map missing_notice code else None) (HasData m)
@@ -249,7 +249,7 @@ parts_within body u e =
     let test = (and_parts (not (nat_lt len (4 + w))) (not (nat_lt len (4 + w + a))) p.0).1 in
     let fits : 4 + w + a ≤ len = grind (arith, nat_tests) in
     let P : Update → Type 0 = λ v. (length v.section + 4 ≤ len) × (0 < length v.nlri → 5 ≤ len) in
-    let section = length-range body (4 + w) (4 + w + a) fits in
+    let section = length-slice_range body (4 + w) (4 + w + a) fits in
     let nlri = length-drop (4 + w + a) body in
     let here : P (update_parts body) = (omega (arith, section, fits), λ some. omega (arith, nlri, some)) in
     subst P p.1 here

@@ -1,6 +1,6 @@
 // What a NOTIFICATION says about an UPDATE (RFC 4271, sections 4.5 and 6.3).
 ghost use Rattle.std.specs.Prelude.{◌≡◌, ◌≤◌, [], length};
-ghost use Rattle.xb_wire.specs.Notices.{said};
+ghost use Rattle.xb_wire.specs.Views.{notice_view};
 ghost use Rattle.bgp_check.specs.Judgement.{attr_notice, update_error};
 
 use bgp_attr::AttrFault;
@@ -12,7 +12,7 @@ use xb_wire::numbers::{
 };
 
 fn about_update(subcode: u8, extra: &[u8]) -> Notice<'_>
-    ensures says { said result ≡ update_error subcode extra.now }
+    ensures says { notice_view result ≡ update_error subcode extra.now }
     ensures data { result.extra.now ≡ extra.now }
 {
     Notice {
@@ -23,14 +23,14 @@ fn about_update(subcode: u8, extra: &[u8]) -> Notice<'_>
 }
 
 pub(crate) fn malformed() -> Notice<'static>
-    ensures says { said result ≡ update_error MALFORMED_ATTRIBUTE_LIST [] }
+    ensures says { notice_view result ≡ update_error MALFORMED_ATTRIBUTE_LIST [] }
     ensures data { result.extra.now ≡ [] }
 {
     about_update(MALFORMED_ATTRIBUTE_LIST, &[])
 }
 
 pub(crate) fn bad_prefix() -> Notice<'static>
-    ensures says { said result ≡ update_error INVALID_NETWORK_FIELD [] }
+    ensures says { notice_view result ≡ update_error INVALID_NETWORK_FIELD [] }
     ensures data { result.extra.now ≡ [] }
 {
     about_update(INVALID_NETWORK_FIELD, &[])
@@ -38,7 +38,7 @@ pub(crate) fn bad_prefix() -> Notice<'static>
 
 // The notice that an attribute is missing, with its code as data.
 pub(crate) fn missing(code: &'static [u8]) -> Notice<'static>
-    ensures says { said result ≡ update_error MISSING_WELL_KNOWN_ATTRIBUTE code.now }
+    ensures says { notice_view result ≡ update_error MISSING_WELL_KNOWN_ATTRIBUTE code.now }
     ensures data { result.extra.now ≡ code.now }
 {
     about_update(MISSING_WELL_KNOWN_ATTRIBUTE, code)
@@ -46,7 +46,7 @@ pub(crate) fn missing(code: &'static [u8]) -> Notice<'static>
 
 // The notice of an attribute's fault, `raw` being all its octets.
 pub(crate) fn of_attribute(raw: &[u8], fault: AttrFault) -> Notice<'_>
-    ensures { said result ≡ attr_notice raw.now fault }
+    ensures { notice_view result ≡ attr_notice raw.now fault }
 {
     match fault {
         AttrFault::Unrecognized => about_update(UNRECOGNIZED_WELL_KNOWN_ATTRIBUTE, raw),

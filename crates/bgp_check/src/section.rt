@@ -1,6 +1,6 @@
 // The checks of a section of path attributes: of the section as a whole, of each attribute, and of what is missing.
 ghost use Rattle.std.specs.Prelude.{◌≡◌, ℕ, ◌<◌, ◌≤◌, [], ◌∷◌, length, map, find, max, is_none, not, option_map, IfSome};
-ghost use Rattle.xb_wire.specs.Notices.{said};
+ghost use Rattle.xb_wire.specs.Views.{notice_view};
 ghost use Rattle.bgp_attr.specs.Attributes.{attributes, codes_of};
 ghost use Rattle.bgp_attr.specs.Rules.{attr_fault};
 ghost use Rattle.bgp_check.specs.Codes.{has_bit};
@@ -43,7 +43,7 @@ fn codes_in(section: &[u8]) -> Option<Codes>
 // The fault of one attribute.
 fn fault_of<'a>(attr: Attr<'a>) -> Option<Notice<'a>>
     ensures { let a = attr.entry in
-        option_map said result ≡ option_map (attr_notice a.raw.now) (attr_fault 2 a.code a.flags a.value.now) }
+        option_map notice_view result ≡ option_map (attr_notice a.raw.now) (attr_fault 2 a.code a.flags a.value.now) }
 {
     let fault = attr_rule(attr.code, attr.flags, attr.value)?;
     Some(notices::of_attribute(attr.raw, fault))
@@ -52,7 +52,7 @@ fn fault_of<'a>(attr: Attr<'a>) -> Option<Notice<'a>>
 // The first fault of the attributes, each judged alone.
 #[tactic(auto, using(crate::proofs::JudgementLemmas::first_found_section))]
 fn first_fault(section: &[u8]) -> Option<Notice<'_>>
-    ensures { option_map said result ≡ first_check (map (attribute_check 2) (attributes section.now)) }
+    ensures { option_map notice_view result ≡ first_check (map (attribute_check 2) (attributes section.now)) }
 {
     let mut attrs = Attrs::new(section);
     'attributes: while let Some(step) = attrs.next() {
@@ -68,7 +68,7 @@ fn first_fault(section: &[u8]) -> Option<Notice<'_>>
 
 // The first mandatory code that is missing.
 fn first_missing(codes: &Codes) -> Option<Notice<'static>>
-    ensures says { option_map said result ≡ option_map missing_notice (find (λ code. not (has_bit codes.now.words code)) mandatory) }
+    ensures says { option_map notice_view result ≡ option_map missing_notice (find (λ code. not (has_bit codes.now.words code)) mandatory) }
     ensures data { IfSome result (λ n. length n.extra.now ≡ 1) }
 {
     if !codes.contains(ORIGIN) {
@@ -86,7 +86,7 @@ fn first_missing(codes: &Codes) -> Option<Notice<'static>>
 /// NEXT_HOP. The data of a fault is a part of the section, except for a missing attribute, where it is its code.
 #[tactic(auto, unfolding(crate::specs::Judgement::judge_section))]
 pub fn check_section<'a>(section: &'a [u8], announces: bool) -> Option<Notice<'a>>
-    ensures fault { option_map said result ≡ judge_section 2 section.now announces }
+    ensures fault { option_map notice_view result ≡ judge_section 2 section.now announces }
     ensures data { IfSome result (λ n. length n.extra.now ≤ max (length section.now) 1) }
 {
     let Some(codes) = codes_in(section) else {

@@ -1,7 +1,7 @@
 // The checks of the body of an UPDATE, in order.
 ghost use Rattle.std.specs.Prelude.{◌≡◌, ◌≤◌, ◌-◌, length, Some, None, IfOk, IfErr};
 ghost use Rattle.xb_wire.specs.Messages.{update_of};
-ghost use Rattle.xb_wire.specs.Notices.{said};
+ghost use Rattle.xb_wire.specs.Views.{notice_view};
 ghost use Rattle.xb_values.specs.Prefixes.{are_prefixes as are_prefixes_of};
 ghost use Rattle.bgp_update.specs.Joins.{Joins};
 ghost use Rattle.bgp_check.specs.Judgement.{judge};
@@ -30,7 +30,7 @@ fn are_prefixes(octets: &[u8]) -> bool
 /// if the body came in a message.
 #[tactic(auto, unfolding(crate::specs::Judgement::judge))]
 pub fn check_update<'a>(body: &'a [u8]) -> Result<UpdateView<'a>, Notice<'a>>
-    ensures fault { IfErr result (λ n. judge 2 body.now ≡ Some (said n)) }
+    ensures fault { IfErr result (λ n. judge 2 body.now ≡ Some (notice_view n)) }
     ensures accepted { IfOk result (λ u. judge 2 body.now ≡ None) }
     ensures parts { IfOk result (λ u. update_of body.now ≡ Some u) }
     ensures joins { IfOk result (Joins body.now) }

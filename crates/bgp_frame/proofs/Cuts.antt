@@ -4,9 +4,9 @@ use Rattle.std.specs.Prelude.{fold}
 use Rattle.std.specs.List.{concat}
 use Rattle.std.proofs.lemmas.List.{append_assoc, append-nil}
 use Rattle.xb_words.specs.Cut.{Pieces, after_item, cut, cut_turns}
-use Rattle.xb_words.proofs.Cutting.{opened, cut-append, cut-some, cut-none}
-use Rattle.xb_wire.specs.Messages.{Notification, message_size, header_fault, front_fault, length_of, split, stream_fault}
-use Rattle.xb_wire.proofs.Streams.{message_is_size, message_is_stable}
+use Rattle.xb_words.proofs.CutLemmas.{cut_by, cut-append, cut-some, cut-none}
+use Rattle.xb_wire.specs.Messages.{Notification, message_size, header_fault, front_fault, message_length, split, stream_fault}
+use Rattle.xb_wire.proofs.MessageLemmas.{message_size_is_size, message_size_is_stable}
 use Rattle.bgp_frame.specs.Pieces.{Taken, drained_in, drained, fed_piece, fed}
 use Rattle.xb_wire.specs.Headers.{notification_of}
 use Rattle.bgp_frame.specs.Fronts.{IsNext, IsFirst}
@@ -26,7 +26,7 @@ before messages p = taken (messages ++ p.items) p.rest
 drained_in-cut : (turns : ℕ) (ms : List (List ℕ)) (s : List ℕ) → drained_in turns (taken ms s) ≡ before ms (cut_turns message_size turns s)
 drained_in-cut zero ms s = ap (λ m. taken m s) (sym (append-nil ms))
 drained_in-cut (suc turns) ms s =
-    elim (message_size s) as (λ o. (elim o [ None ↦ taken ms s | Some len ↦ drained_in turns (taken (ms ++ take len s ∷ []) (drop len s)) ]) ≡ before ms (opened message_size s turns o)) [
+    elim (message_size s) as (λ o. (elim o [ None ↦ taken ms s | Some len ↦ drained_in turns (taken (ms ++ take len s ∷ []) (drop len s)) ]) ≡ before ms (cut_by message_size s turns o)) [
       | None ↦ ap (λ m. taken m s) (sym (append-nil ms))
       | Some len ↦
           let p = cut_turns message_size turns (drop len s) in
@@ -38,7 +38,7 @@ unfolding drained cut
 drained-split ms s = drained_in-cut (length s) ms s
 
 one_more : (s p : List ℕ) → fed_piece (before [] (split s)) p ≡ before [] (split (s ++ p))
-one_more s p = drained-split (split s).items ((split s).rest ++ p) ∙ ap (before []) (sym (cut-append message_size message_is_size message_is_stable s p))
+one_more s p = drained-split (split s).items ((split s).rest ++ p) ∙ ap (before []) (sym (cut-append message_size message_size_is_size message_size_is_stable s p))
 
 from_there : (s : List ℕ) (ps : List (List ℕ)) → fold fed_piece (before [] (split s)) ps ≡ before [] (split (s ++ concat ps))
 from_there s [] = ap (λ x. before [] (split x)) (sym (append-nil s))
@@ -51,10 +51,10 @@ fed-split ps = from_there [] ps
 
 -- what stands in front is the first of the split
 whole_first : (s : List ℕ) (len : ℕ) → message_size s ≡ Some len → split s ≡ after_item (take len s) (split (drop len s))
-whole_first s len e = cut-some message_size message_is_size s len e
+whole_first s len e = cut-some message_size message_size_is_size s len e
 
 none_first : (s : List ℕ) → message_size s ≡ None → (split s ≡ pieces s) × (stream_fault s ≡ front_fault s)
-none_first s e = let whole = cut-none message_size message_is_size s e in (whole, ap (λ (p : Pieces). front_fault p.rest) whole)
+none_first s e = let whole = cut-none message_size message_size_is_size s e in (whole, ap (λ (p : Pieces). front_fault p.rest) whole)
 
 -- a refused header is no message
 refused : (b : Bool) (o : Option Notification) (m : Option ℕ) (n : Notification) → cond {A = Option Notification} b None o ≡ Some n → cond {A = Option ℕ} b None (elim o [ Some f ↦ None | None ↦ m ]) ≡ None
@@ -66,6 +66,6 @@ pub next-first : (waits : List ℕ) (next : Next) → IsNext waits next → IsFi
 next-first waits (Whole kind len) h = whole_first waits len h.0
 next-first waits More h = let p = none_first waits h.0 in (p.0, p.1 ∙ h.1)
 next-first waits (Fault fault) h =
-    let none = refused (nat_lt (length waits) 19) (header_fault waits) (cond (nat_lt (length waits) (length_of waits)) None (Some (length_of waits))) (notification_of fault) h in
+    let none = refused (nat_lt (length waits) 19) (header_fault waits) (cond (nat_lt (length waits) (message_length waits)) None (Some (message_length waits))) (notification_of fault) h in
     let p = none_first waits none in
     (p.0, p.1 ∙ h)

@@ -4,8 +4,8 @@ use Rattle.std.proofs.lemmas.Bool.{ltb-false}
 use Rattle.std.proofs.lemmas.List.{length-drop, drop-drop, drop-take}
 use Rattle.std.specs.Prelude.{◌||◌, ◌==◌, not, slice_range}
 use Rattle.xb_words.specs.Octets.{all_are}
-use Rattle.xb_wire.specs.Messages.{Notification, notification, message_size, header_fault, length_of, kind_of, is_bad_length, body_of}
-use Rattle.xb_wire.proofs.Streams.{passed, message_is_size}
+use Rattle.xb_wire.specs.Messages.{Notification, notification, message_size, header_fault, message_length, message_kind, is_bad_length, message_body}
+use Rattle.xb_wire.proofs.MessageLemmas.{tests_passed, message_size_is_size}
 use Rattle.bgp_frame.specs.Waiting.{Waiting, IsKept}
 
 later_test : (a b b' c d : Bool) (x y z w : Notification) → cond a (Some x) (cond (b || b') (Some y) (cond c (Some z) (cond d (Some w) None))) ≡ None → (b ≡ false) × (b' ≡ false)
@@ -17,11 +17,11 @@ later_test false false false c d x y z w e = (refl, refl)
 -- a whole message has 19 to 4,096 octets
 pub message_bounds : (s : List ℕ) (n : ℕ) → message_size s ≡ Some n → (19 ≤ n) × (n ≤ 4096)
 message_bounds s n e =
-    let p = passed (nat_lt (length s) 19) (header_fault s) (nat_lt (length s) (length_of s)) (length_of s) n e in
-    let t = later_test (not (all_are 255 (take 16 s))) (nat_lt (length_of s) 19) (nat_lt 4096 (length_of s)) (kind_of s == 0 || nat_lt 4 (kind_of s)) (is_bad_length (kind_of s) (length_of s))
-    (notification 1 1 []) (notification 1 2 (slice_range s 16 18)) (notification 1 3 (kind_of s ∷ [])) (notification 1 2 (slice_range s 16 18)) p.1 in
-    let least : 19 ≤ length_of s = ltb-false (length_of s) 19 t.0 in
-    let most : length_of s ≤ 4096 = ltb-false 4096 (length_of s) t.1 in
+    let p = tests_passed (nat_lt (length s) 19) (header_fault s) (nat_lt (length s) (message_length s)) (message_length s) n e in
+    let t = later_test (not (all_are 255 (take 16 s))) (nat_lt (message_length s) 19) (nat_lt 4096 (message_length s)) (message_kind s == 0 || nat_lt 4 (message_kind s)) (is_bad_length (message_kind s) (message_length s))
+    (notification 1 1 []) (notification 1 2 (slice_range s 16 18)) (notification 1 3 (message_kind s ∷ [])) (notification 1 2 (slice_range s 16 18)) p.1 in
+    let least : 19 ≤ message_length s = ltb-false (message_length s) 19 t.0 in
+    let most : message_length s ≤ 4096 = ltb-false 4096 (message_length s) t.1 in
     (omega (arith, least, p.3), omega (arith, most, p.3))
 
 abbrev pub shown : List ℕ → List ℕ → Waiting
@@ -30,7 +30,7 @@ shown waits body = record { waits = waits; body = body }
 pub kept_next : (octets : List ℕ) (body start capacity len : ℕ) → IsKept octets body start capacity → message_size (drop start octets) ≡ Some len → IsKept octets (start + 19) (start + len) capacity
 kept_next octets body start capacity len kept e =
     let bounds = message_bounds (drop start octets) len e in
-    let size = message_is_size (drop start octets) len e in
+    let size = message_size_is_size (drop start octets) len e in
     let left = length-drop start octets in
     record {
       order = omega (arith, bounds.0);
@@ -42,7 +42,7 @@ kept_next octets body start capacity len kept e =
     }
 
 pub shown_next : (octets : List ℕ) (start len : ℕ) → message_size (drop start octets) ≡ Some len
-    → shown (drop (start + len) octets) (slice_range octets (start + 19) (start + len)) ≡ shown (drop len (drop start octets)) (body_of (take len (drop start octets)))
+    → shown (drop (start + len) octets) (slice_range octets (start + 19) (start + len)) ≡ shown (drop len (drop start octets)) (message_body (take len (drop start octets)))
 shown_next octets start len e =
     let bounds = message_bounds (drop start octets) len e in
     let rest : len ≡ 19 + (len - 19) = omega (arith, bounds.0) in

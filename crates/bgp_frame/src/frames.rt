@@ -1,5 +1,5 @@
 ghost use Rattle.std.specs.Prelude.{◌≡◌, ◌↔◌, ◌<◌, ◌≤◌, ◌+◌, ◌-◌, ◌++◌, [], length, take, drop, min, Some, IfOk, vec_capacity};
-ghost use Rattle.xb_wire.specs.Messages.{message_size, body_of};
+ghost use Rattle.xb_wire.specs.Messages.{message_size, message_body};
 ghost use Rattle.bgp_frame.specs.Waiting.{Waiting};
 ghost use Rattle.bgp_frame.specs.Fronts.{IsNext, after_next};
 
@@ -121,7 +121,7 @@ impl Frames {
     // The body of the message in front is kept, and what stands behind it waits.
     fn take_off(&mut self, len: u16)
         requires { message_size self.old.waits ≡ Some len }
-        ensures { self.new ≡ record { waits = drop len self.old.waits; body = body_of (take len self.old.waits) } }
+        ensures { self.new ≡ record { waits = drop len self.old.waits; body = message_body (take len self.old.waits) } }
     {
         self.body = self.start + HEADER;
         self.start += usize::from(len);

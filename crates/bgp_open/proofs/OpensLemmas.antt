@@ -5,7 +5,7 @@ use Rattle.std.proofs.lemmas.List.{length-drop}
 use Rattle.std.specs.Prelude.{slice_index, ◌==◌, if◌then◌else◌}
 use Rattle.xb_words.specs.Cut.{Pieces, after_item, cut, IsSize}
 use Rattle.xb_words.specs.Optional.{or_else}
-use Rattle.xb_words.proofs.Cutting.{cut-some, cut-none}
+use Rattle.xb_words.proofs.CutLemmas.{cut-some, cut-none}
 use Rattle.xb_wire.specs.declared.numbers.TheConstants.{UNSPECIFIC}
 use Rattle.xb_wire.specs.Messages.{Notification}
 use Rattle.bgp_open.specs.declared.TheConstants.{FIELD_HEADER}

@@ -12,7 +12,7 @@
 
 ghost use Rattle.std.specs.Prelude.{◌≡◌, ◌≤◌, [], length, IfOk, IfErr, IfSome, Some, None};
 ghost use Rattle.std.specs.Option.{option_map};
-ghost use Rattle.xb_wire.specs.Notices.{said};
+ghost use Rattle.xb_wire.specs.Views.{notice_view};
 ghost use Rattle.bgp_open.specs.Opens.{front_field, fills, open_error, parameter_fault, parameters_fault};
 ghost use Rattle.bgp_open.specs.Opens.{judge_open, open_seen};
 
@@ -66,7 +66,7 @@ pub struct OpenSeen {
 
 // An error of an OPEN, without data.
 fn error(subcode: u8) -> Notice<'static>
-    ensures says { said result ≡ open_error subcode [] }
+    ensures says { notice_view result ≡ open_error subcode [] }
     ensures data { length result.extra.now ≡ 0 }
 {
     Notice {
@@ -104,7 +104,7 @@ fn fills(octets: &[u8]) -> bool
 
 fn fault_of_parameter(parameter: &[u8]) -> Option<Notice<'static>>
     requires { FIELD_HEADER ≤ length parameter.now }
-    ensures fault { option_map said result ≡ parameter_fault parameter.now }
+    ensures fault { option_map notice_view result ≡ parameter_fault parameter.now }
     ensures data { IfSome result (λ n. length n.extra.now ≡ 0) }
 {
     if parameter[0] != CAPABILITIES {
@@ -119,7 +119,7 @@ fn fault_of_parameter(parameter: &[u8]) -> Option<Notice<'static>>
 // The first fault of the parameters, in order.
 #[tactic(auto, using(crate::proofs::OpensLemmas::walks))]
 fn fault_of_parameters(octets: &[u8]) -> Option<Notice<'static>>
-    ensures fault { option_map said result ≡ parameters_fault octets.now }
+    ensures fault { option_map notice_view result ≡ parameters_fault octets.now }
     ensures data { IfSome result (λ n. length n.extra.now ≡ 0) }
 {
     let mut rest = octets;
@@ -141,7 +141,7 @@ fn fault_of_parameters(octets: &[u8]) -> Option<Notice<'static>>
 #[tactic(auto, unfolding(crate::specs::Opens::judge_open))]
 pub fn read_open<'a>(body: &'a [u8], want: &OpenWant) -> Result<OpenSeen, Notice<'a>>
     requires { PARAMETERS ≤ length body.now }
-    ensures fault { IfErr result (λ n. judge_open body.now want.now.peer_as ≡ Some (said n)) }
+    ensures fault { IfErr result (λ n. judge_open body.now want.now.peer_as ≡ Some (notice_view n)) }
     ensures accepted { IfOk result (λ o. judge_open body.now want.now.peer_as ≡ None) }
     ensures values { IfOk result (λ o. o ≡ open_seen body.now) }
     ensures data { IfErr result (λ n. length n.extra.now ≤ 2) }

@@ -6,13 +6,13 @@ use Rattle.std.proofs.lemmas.Nat.{be_bytes_2, be_bytes_4}
 use Rattle.std.specs.Prelude.{◌||◌, ◌==◌}
 use Rattle.std.specs.List.{list_any}
 use Rattle.xb_words.specs.Octets.{AreOctets}
-use Rattle.xb_words.proofs.Ends.{all_right}
+use Rattle.xb_words.proofs.ListLemmas.{AllByRecursion-right}
 use Rattle.bgp_attr.specs.Paths.{first_number, number_octets, numbers_of}
 use Rattle.bgp_path.specs.Parts.{width_of}
 
 -- octets without the first n are octets
 pub AreOctets-drop : (n : ℕ) (s : List ℕ) → AreOctets s → AreOctets (drop n s)
-AreOctets-drop n s h = let P : List ℕ → Type 0 = λ t. AreOctets t in all_right (λ b. b < 256) (take n s) (drop n s) (subst P (sym (take-append-drop n s)) h)
+AreOctets-drop n s h = let P : List ℕ → Type 0 = λ t. AreOctets t in AllByRecursion-right (λ b. b < 256) (take n s) (drop n s) (subst P (sym (take-append-drop n s)) h)
 
 -- each of some octets is less than 256
 pub get_or-AreOctets : (s : List ℕ) → AreOctets s → (i : ℕ) → get_or s i 0 < 256

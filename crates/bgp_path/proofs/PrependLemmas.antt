@@ -4,7 +4,7 @@ use Rattle.std.proofs.lemmas.List.{length-append, append-nil, drop_at}
 use Rattle.std.proofs.lemmas.Bool.{le-leb}
 use Rattle.std.specs.Prelude.{◌||◌, ◌&&◌, ◌==◌, nat_le, slice_index, if◌then◌else◌}
 use Rattle.xb_words.specs.Octets.{AreOctets}
-use Rattle.xb_words.proofs.Ends.{all_left, all_right}
+use Rattle.xb_words.proofs.ListLemmas.{AllByRecursion-left, AllByRecursion-right}
 use Rattle.xb_words.specs.Cut.{cut}
 use Rattle.bgp_attr.specs.declared.segments.TheConstants.{AS_SET, AS_SEQUENCE, MAX_NUMBERS}
 use Rattle.bgp_attr.specs.Paths.{Segment, segment_size, path, path_ok, path_octets, segment_octets, number_octets, numbers_of, prepend}
@@ -59,8 +59,8 @@ octets_path (suc n) wide (b ∷ s) h o ok =
     let P : List ℕ → Type 0 = λ t. AreOctets t in
     let p = front w v in
     let joined : AreOctets (part_octets p ++ drop k v) = subst P (sym split.joined) o in
-    let first = all_left (λ b. b < 256) (part_octets p) (drop k v) joined in
-    let later = all_right (λ b. b < 256) (part_octets p) (drop k v) joined in
+    let first = AllByRecursion-left (λ b. b < 256) (part_octets p) (drop k v) joined in
+    let later = AllByRecursion-right (λ b. b < 256) (part_octets p) (drop k v) joined in
     ap (path_octets w) split.segments
     ∙ ap (λ t. t ++ path_octets w (path w (drop k v))) (segment_octets-part_segment wide p split.octets first.1.1)
     ∙ ap (λ t. part_octets p ++ t) (octets_path n wide (drop k v) (shorter w v p (drop k v) n split h) later split.ok)
@@ -112,8 +112,8 @@ path_octets-prepend-open wide asn s p rest o split room =
     let number = number_octets w asn in
     let P : List ℕ → Type 0 = λ t. AreOctets t in
     let joined : AreOctets (part_octets p ++ rest) = subst P (sym split.joined) o in
-    let first = all_left (λ b. b < 256) (part_octets p) rest joined in
-    let later = all_right (λ b. b < 256) (part_octets p) rest joined in
+    let first = AllByRecursion-left (λ b. b < 256) (part_octets p) rest joined in
+    let later = AllByRecursion-right (λ b. b < 256) (part_octets p) rest joined in
     let count = length-numbers_of w p.count p.octets in
     ap (path_octets w) (prepend-split w asn s p rest false split room)
     ∙ ap (λ n. AS_SEQUENCE ∷ n ∷ ((number ++ flat_map (number_octets w) ns) ++ path_octets w (path w rest))) (let more : suc (length ns) ≡ p.count + 1 = omega (arith, count) in more)

@@ -7,7 +7,7 @@ use Rattle.std.proofs.lemmas.List.Sums.{sum_by-cons}
 use Rattle.std.specs.Prelude.{◌&&◌, ◌||◌, ◌==◌, nat_le, slice_index, if◌then◌else◌}
 use Rattle.std.specs.List.{list_any}
 use Rattle.xb_words.specs.Cut.{Pieces, after_item, cut}
-use Rattle.xb_words.proofs.Cutting.{cut-some}
+use Rattle.xb_words.proofs.CutLemmas.{cut-some}
 use Rattle.bgp_attr.specs.declared.segments.TheConstants.{AS_SET, AS_SEQUENCE}
 use Rattle.bgp_attr.specs.Paths.{segment_size, segment_of, path_ok, path, numbers_of, first_number, segment_hops, hops, contains, leftmost}
 use Rattle.std.proofs.lemmas.Option.{cond_some}

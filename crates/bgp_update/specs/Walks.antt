@@ -2,7 +2,7 @@
 use Rattle.std.specs.Prelude.{ℕ, List, Result}
 use Rattle.xb_words.specs.Cut.{walk_from}
 use Rattle.xb_values.specs.Prefixes.{Prefix, prefix_at, prefix_size}
-use Rattle.xb_wire.specs.Messages.{message_size, kind_of, body_of}
+use Rattle.xb_wire.specs.Messages.{message_size, message_kind, message_body}
 
 -- a message with the place at which it begins
 pub record Found : Type 0 where
@@ -11,7 +11,7 @@ pub record Found : Type 0 where
   pub body : List ℕ
 
 abbrev pub found : ℕ → List ℕ → Found
-found at message = record { at = at; kind = kind_of message; body = body_of message }
+found at message = record { at = at; kind = message_kind message; body = message_body message }
 
 -- the messages of a stream whose first octet has a place; the error is the place of a fault or of a rest (RFC 4271, sections 4.1 and 6.1)
 abbrev pub messages_from : ℕ → List ℕ → List (Result Found ℕ)

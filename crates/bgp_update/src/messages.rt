@@ -58,7 +58,7 @@ impl<'a> Messages<'a> {
     }
 
     /// The next message, or the offset of a header fault or of a rest that is no whole message, after which nothing comes.
-    #[tactic(auto, using(xb_wire::proofs::Streams::message_is_size, crate::proofs::WalkLemmas::messages_some, crate::proofs::WalkLemmas::messages_error, crate::proofs::WalkLemmas::messages_nil))]
+    #[tactic(auto, using(xb_wire::proofs::MessageLemmas::message_size_is_size, crate::proofs::WalkLemmas::messages_some, crate::proofs::WalkLemmas::messages_error, crate::proofs::WalkLemmas::messages_nil))]
     pub fn next(&mut self) -> Option<Result<Msg<'a>, usize>>
         ensures item { IfSome result (λ r. self.old ≡ found_of r ∷ self.new) }
         ensures end { IfNone result ((self.old ≡ []) × (self.new ≡ [])) }

@@ -64,7 +64,7 @@ impl<'a> Prefixes<'a> {
     }
 
     /// The next prefix, with its host bits cleared. Nothing comes after a bad one.
-    #[tactic(auto, using(xb_values::proofs::PrefixLemmas::prefix_is_size, crate::proofs::WalkLemmas::prefixes_some, crate::proofs::WalkLemmas::prefixes_error, crate::proofs::WalkLemmas::prefixes_nil))]
+    #[tactic(auto, using(xb_values::proofs::PrefixLemmas::prefix_size_is_size, crate::proofs::WalkLemmas::prefixes_some, crate::proofs::WalkLemmas::prefixes_error, crate::proofs::WalkLemmas::prefixes_nil))]
     pub fn next(&mut self) -> Option<Result<Prefix, BadPrefix>>
         ensures item { IfSome result (λ r. self.old ≡ prefix_of_result r ∷ self.new) }
         ensures end { IfNone result ((self.old ≡ []) × (self.new ≡ [])) }

@@ -5,8 +5,8 @@ use Rattle.std.proofs.lemmas.Bool.{le-ltb}
 use Rattle.std.proofs.lemmas.List.{length-append}
 use Rattle.std.proofs.lemmas.Nat.{from_be_bytes-to_be_bytes_2}
 use Rattle.xb_words.specs.Octets.{two_octets}
-use Rattle.xb_wire.specs.Messages.{Update, Notification, message, update_body, update_message, header_fault, length_of, is_bad_length, IsMessage}
-use Rattle.xb_wire.proofs.Streams.{passes}
+use Rattle.xb_wire.specs.Messages.{Update, Notification, message, update_body, update_message, header_fault, message_length, is_bad_length, IsMessage}
+use Rattle.xb_wire.proofs.MessageLemmas.{size_if_passed}
 
 no_fault : (a b c : Bool) (x y : Option Notification) → a ≡ false → b ≡ false → c ≡ false → cond {A = Option Notification} (a || b) x (cond {A = Option Notification} c y None) ≡ None
 no_fault true b c x y e f g = cc
@@ -20,12 +20,12 @@ no_bad_length n e = rw e refl
 update_is_message : (body : List ℕ) → 4 ≤ length body → length body ≤ 4077 → IsMessage (message 2 body)
 update_is_message body long short =
     let m = message 2 body in
-    let size : length_of m ≡ 19 + length body = from_be_bytes-to_be_bytes_2 (19 + length body) (omega (arith, short)) in
+    let size : message_length m ≡ 19 + length body = from_be_bytes-to_be_bytes_2 (19 + length body) (omega (arith, short)) in
     let whole : length m ≡ 19 + length body = omega arith in
-    passes (nat_lt (length m) 19) (header_fault m) (nat_lt (length m) (length_of m)) (length_of m) (length m)
+    size_if_passed (nat_lt (length m) 19) (header_fault m) (nat_lt (length m) (message_length m)) (message_length m) (length m)
     (le-ltb (length m) 19 (omega arith))
-    (no_fault (nat_lt (length_of m) 19) (nat_lt 4096 (length_of m)) (is_bad_length 2 (length_of m)) _ _ (le-ltb (length_of m) 19 (omega (arith, size))) (le-ltb 4096 (length_of m) (omega (arith, size, short))) (no_bad_length (length_of m) (le-ltb (length_of m) 23 (omega (arith, size, long)))))
-    (le-ltb (length m) (length_of m) (omega (arith, size, whole)))
+    (no_fault (nat_lt (message_length m) 19) (nat_lt 4096 (message_length m)) (is_bad_length 2 (message_length m)) _ _ (le-ltb (message_length m) 19 (omega (arith, size))) (le-ltb 4096 (message_length m) (omega (arith, size, short))) (no_bad_length (message_length m) (le-ltb (message_length m) 23 (omega (arith, size, long)))))
+    (le-ltb (length m) (message_length m) (omega (arith, size, whole)))
     (omega (arith, size, whole))
 
 pub update_whole : (u : Update) → length (update_message u) ≤ 4096 → IsMessage (update_message u)

@@ -9,13 +9,13 @@ use Rattle.std.proofs.lemmas.Nat.{from_be_bytes-to_be_bytes_2, from_be_bytes-to_
 use Rattle.std.proofs.Math.Nat.{mul-div_cancel, mul-mod_left, mul_assoc, div-one}
 use Rattle.xb_words.specs.Octets.{two_at, two_octets, four_at, four_octets}
 use Rattle.xb_words.specs.Cut.{cut, IsStable, IsItem, Pieces}
-use Rattle.xb_words.proofs.Cutting.{cut-joined}
+use Rattle.xb_words.proofs.CutLemmas.{cut-concat}
 use Rattle.xb_wire.specs.Messages.{Update, update_body, update_of, split, message_size, IsMessage}
-use Rattle.xb_wire.proofs.Streams.{message_is_size, message_is_stable}
+use Rattle.xb_wire.proofs.MessageLemmas.{message_size_is_size, message_size_is_stable}
 use Rattle.bgp_write.specs.Written.{open_body}
 use Rattle.bgp_write.proofs.PackingLemmas.{in_place}
 use Rattle.xb_values.specs.Prefixes.{Prefix, prefix_of, prefix_at, prefix_octets, prefix_size, prefixes, are_prefixes, octets_for, cleared, IsPrefix}
-use Rattle.xb_values.proofs.PrefixLemmas.{prefix_is_size}
+use Rattle.xb_values.proofs.PrefixLemmas.{prefix_size_is_size}
 
 pub prefix_is_stable : IsStable prefix_size
 prefix_is_stable [] t n e = cc
@@ -100,7 +100,7 @@ joined_is (p ∷ ps) = ap (λ s. prefix_octets p ++ s) (joined_is ps)
 pub prefixes_cut : (ps : List Prefix) → AllByRecursion IsPrefix ps → cut prefix_size (flat_map prefix_octets ps) ≡ record { items = map prefix_octets ps; rest = [] }
 prefixes_cut ps all =
     ap (cut prefix_size) (joined_is ps ∙ sym (append-nil (concat (map prefix_octets ps))))
-    ∙ cut-joined prefix_size prefix_is_size prefix_is_stable (map prefix_octets ps) [] (all_items ps all) refl
+    ∙ cut-concat prefix_size prefix_size_is_size prefix_is_stable (map prefix_octets ps) [] (all_items ps all) refl
 
 pub prefixes_back : (ps : List Prefix) → AllByRecursion IsPrefix ps → prefixes (flat_map prefix_octets ps) ≡ ps
 prefixes_back ps all = ap (λ (c : Pieces). map prefix_at c.items) (prefixes_cut ps all) ∙ all_back ps all
@@ -156,4 +156,4 @@ fields_back asn hold id small_asn small_hold small_id = (from_be_bytes-to_be_byt
 -- a stream of one message is split into it
 pub alone : (m : List ℕ) → IsMessage m → split m ≡ record { items = m ∷ []; rest = [] }
 alone m is =
-    ap split (sym (append-nil (m ++ []) ∙ append-nil m)) ∙ cut-joined message_size message_is_size message_is_stable (m ∷ []) [] (is, tt) refl
+    ap split (sym (append-nil (m ++ []) ∙ append-nil m)) ∙ cut-concat message_size message_size_is_size message_size_is_stable (m ∷ []) [] (is, tt) refl

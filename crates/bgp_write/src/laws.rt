@@ -2,14 +2,14 @@
 ghost use Rattle.std.specs.Prelude.{◌≡◌, ◌<◌, ◌^◌, ℕ, List, [], ◌∷◌, length, flat_map, Some, true};
 ghost use Rattle.std.specs.List.{AllByRecursion};
 ghost use Rattle.xb_words.specs.Octets.{two_at, four_at};
-ghost use Rattle.xb_wire.specs.Messages.{Update, message, kind_of, body_of, split, update_body, update_of, IsMessage};
+ghost use Rattle.xb_wire.specs.Messages.{Update, message, message_kind, message_body, split, update_body, update_of, IsMessage};
 ghost use Rattle.xb_values.specs.Prefixes.{Prefix, prefixes, are_prefixes, prefix_octets, IsPrefix};
 ghost use Rattle.bgp_write.specs.Written.{open_body};
 
 /// A message that is written is read as that one message, with its type and its body.
 pub fn message_is_read_again()
     ensures alone { (m : List ℕ) → IsMessage m → split m ≡ record { items = m ∷ []; rest = [] } }
-    ensures parts { (kind : ℕ) (body : List ℕ) → (kind_of (message kind body) ≡ kind) × (body_of (message kind body) ≡ body) }
+    ensures parts { (kind : ℕ) (body : List ℕ) → (message_kind (message kind body) ≡ kind) × (message_body (message kind body) ≡ body) }
 {}
 
 /// The body of an OPEN has the AS number, the hold time and the identifier at their places (RFC 4271, section 4.2).

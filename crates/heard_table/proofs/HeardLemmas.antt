@@ -4,10 +4,10 @@ use Rattle.std.specs.Prelude.{◌==◌}
 use Rattle.std.specs.List.{concat}
 use Rattle.std.specs.Option.{option_and_then, option_map}
 use Rattle.std.proofs.Math.Dec.{eqb-suc-zero}
-use Rattle.xb_words.specs.Cut.{cut, walk, walk_from, placed}
+use Rattle.xb_words.specs.Cut.{cut, walk, walk_from, with_offsets}
 use Rattle.xb_words.specs.Table.{with_value, without}
 use Rattle.xb_values.specs.Prefixes.{Sections, prefix_cmp, prefix_at, prefix_size, are_prefixes}
-use Rattle.xb_wire.specs.Messages.{Update, update_parts, lengths_fit, kind_of, body_of, split}
+use Rattle.xb_wire.specs.Messages.{Update, update_parts, lengths_fit, message_kind, message_body, split}
 use Rattle.bgp_update.specs.Heard.{heard, after_message, after_update, withdrawn_from, announced_in, is_readable, is_refused}
 use Rattle.bgp_update.specs.Walks.{found, messages_from, prefixes_from}
 use Rattle.bgp_update.proofs.WalkLemmas.{prefixes_nil}
@@ -62,9 +62,9 @@ update_step_is body table =
 
 message_step_is : (at : ℕ) (m : List ℕ) (table : Sections) → message_step (found at m) table ≡ where_whole (not (is_refused m)) (after_message table m)
 message_step_is at m table =
-    elim (kind_of m == 2) as (λ k. (if k then update_step (body_of m) table else Some table)
-    ≡ where_whole (not (k && not (is_readable (body_of m)))) (if k then after_update table (update_parts (body_of m)) else table)) [
-      | true ↦ update_step_is (body_of m) table ∙ ap (λ b. where_whole b (after_update table (update_parts (body_of m)))) (twice (is_readable (body_of m)))
+    elim (message_kind m == 2) as (λ k. (if k then update_step (message_body m) table else Some table)
+    ≡ where_whole (not (k && not (is_readable (message_body m)))) (if k then after_update table (update_parts (message_body m)) else table)) [
+      | true ↦ update_step_is (message_body m) table ∙ ap (λ b. where_whole b (after_update table (update_parts (message_body m)))) (twice (is_readable (message_body m)))
       | false ↦ refl
     ]
   where
@@ -75,7 +75,7 @@ message_step_is at m table =
 -- what is refused first among the messages, or else the rest, which begins at `end`
 abbrev refused_in : ℕ → ℕ → List (List ℕ) → List ℕ → Sections → Result Sections ℕ
 refused_in at end items rest table =
-    elim (find (λ m. is_refused m.1) (placed at items)) [
+    elim (find (λ m. is_refused m.1) (with_offsets at items)) [
       | Some m ↦ Err m.0
       | None ↦ if length rest == 0 then Ok (fold after_message table items) else Err end
     ]
@@ -90,7 +90,7 @@ by_messages at (m ∷ items) rest table =
     let end : at + length m + length (concat items) ≡ at + length (m ++ concat items) = omega (arith, length-append m (concat items)) in
     ap (λ o. or_refused at (option_map (after_messages (walk found (λ i. i) (at + length m) items rest)) o)) (message_step_is at m table)
     ∙ elim (is_refused m) as (λ b. or_refused at (option_map (after_messages (walk found (λ i. i) (at + length m) items rest)) (where_whole (not b) (after_message table m)))
-    ≡ elim (cond b (Some (at, m)) (find (λ x. is_refused x.1) (placed (at + length m) items))) [
+    ≡ elim (cond b (Some (at, m)) (find (λ x. is_refused x.1) (with_offsets (at + length m) items))) [
       | Some x ↦ Err x.0
       | None ↦ if length rest == 0 then Ok (fold after_message (after_message table m) items) else Err (at + length (m ++ concat items))
     ]) [
@@ -103,7 +103,7 @@ pub heard_by_steps : (s : List ℕ) → after_messages (messages_from 0 s) [] �
 unfolding walk_from heard
 heard_by_steps s =
     by_messages 0 (split s).items (split s).rest []
-    ∙ by_refusal (find (λ m. is_refused m.1) (placed 0 (split s).items)) (length (split s).rest == 0) (fold after_message [] (split s).items) (length (concat (split s).items))
+    ∙ by_refusal (find (λ m. is_refused m.1) (with_offsets 0 (split s).items)) (length (split s).rest == 0) (fold after_message [] (split s).items) (length (concat (split s).items))
   where
     by_refusal : (o : Option (ℕ × List ℕ)) (b : Bool) (table : Sections) (end : ℕ)
         → elim o as (λ x. Result Sections ℕ) [ Some m ↦ Err m.0 | None ↦ if b then Ok table else Err (0 + end) ]

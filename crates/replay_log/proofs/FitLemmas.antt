@@ -3,9 +3,9 @@ use Rattle.std.proofs.Common.{◌≡◌, refl, subst, inl, inr, ℕ, ◌≤◌, 
 use Rattle.std.specs.Str.{bytes_eq}
 use Rattle.std.proofs.lemmas.Bool.{cases_Bool, leb-true}
 use Rattle.xb_words.specs.Optional.{◌>>=◌}
-use Rattle.xb_domain.specs.Actors.{Event, start, stop, up, down, octets, time, room, drain, rescan}
-use Rattle.xb_values.specs.Readers.{parts, number_up_to}
-use Rattle.xb_values.proofs.ReaderLemmas.{number_fits}
+use Rattle.xb_domain.specs.Events.{Event, start, stop, up, down, octets, time, room, drain, rescan}
+use Rattle.xb_values.specs.Readers.{split_on, number_up_to}
+use Rattle.xb_values.proofs.ReaderLemmas.{number_up_to-le}
 use Rattle.replay_log.specs.Lines.{blank, says, IsFor, at_least, peer_word, count_word, time_word, some_octets, peer_event, one_argument, two_arguments, event_of_words, line_of}
 
 -- steps that give something
@@ -20,7 +20,7 @@ number_above least most n text (Some m) is e =
       | inl above ↦
           let some : Some m ≡ Some n = rw above at e in
           let same : m ≡ n = cc some in
-          (omega (arith, same, leb-true least m above), omega (arith, same, number_fits most m text is))
+          (omega (arith, same, leb-true least m above), omega (arith, same, number_up_to-le most m text is))
       | inr below ↦ let none : None ≡ Some n = rw below at e in cc none
     ]
 
@@ -103,10 +103,10 @@ pub line_fits : (peers now : ℕ) (line : List ℕ) (event : Event) → line_of 
 unfolding line_of
 line_fits peers now [] event e = cc e
 line_fits peers now (c ∷ text) event e =
-    elim (chosen (c == 35) (Some blank) (event_of_words peers now (parts 32 (c ∷ text)) >>= λ e. Some (says e)) (says event) e) [
+    elim (chosen (c == 35) (Some blank) (event_of_words peers now (split_on 32 (c ∷ text)) >>= λ e. Some (says e)) (says event) e) [
       | inl is ↦ cc is
       | inr is ↦
-          let (said, words, same) = stepped (event_of_words peers now (parts 32 (c ∷ text))) (λ e. Some (says e)) (says event) is in
+          let (said, words, same) = stepped (event_of_words peers now (split_on 32 (c ∷ text))) (λ e. Some (says e)) (says event) is in
           let is_event : said ≡ event = cc same in
-          subst (IsFor peers now) is_event (words_fit peers now (parts 32 (c ∷ text)) said words)
+          subst (IsFor peers now) is_event (words_fit peers now (split_on 32 (c ∷ text)) said words)
     ]

@@ -4,7 +4,7 @@ use Rattle.std.proofs.lemmas.List.{append_assoc, take_rest, length-drop}
 use Rattle.xb_words.specs.Optional.{◌>>=◌}
 use Rattle.xb_values.specs.Buffers.{Buffer, Appends}
 use Rattle.xb_values.specs.Readers.{hex_value, read_hex}
-use Rattle.xb_values.proofs.BufferLemmas.{appended}
+use Rattle.xb_values.proofs.BufferLemmas.{Appends-fits}
 use Rattle.replay_log.specs.Lines.{octet_value}
 
 -- octets, where there are some, behind others
@@ -43,7 +43,7 @@ pub pair_pushed : (done : Bool) (old new : Buffer) (digits text : List ℕ) (b c
     → (behind new.octets (read_hex (take (length digits - 2) (drop 2 digits))) ≡ behind old.octets (read_hex digits))
     × (2 * length new.octets + length (take (length digits - 2) (drop 2 digits)) ≡ length text) × (new.capacity ≡ capacity)
 pair_pushed done old new digits text b capacity two e a size room fits =
-    let is = appended done old new (b ∷ []) a (omega arith) in
+    let is = Appends-fits done old new (b ∷ []) a (omega arith) in
     let grown : length new.octets ≡ length old.octets + 1 = ap (λ (n : Buffer). length n.octets) is ∙ length-append old.octets (b ∷ []) in
     let left : length (take (length digits - 2) (drop 2 digits)) ≡ length digits - 2 = ap length (take_rest digits 2) ∙ length-drop 2 digits in (
       pair_read old.octets new.octets digits b two e (ap (λ (n : Buffer). n.octets) is),

@@ -4,7 +4,7 @@ use Rattle.std.specs.List.{position_or_len}
 use Rattle.std.proofs.lemmas.Bool.{cases_Bool, cases_lt, eqb-true, lt-ltb, le-ltb}
 use Rattle.std.proofs.lemmas.List.{length-take-le, length-drop, drop-drop, drop_all, take-take}
 use Rattle.xb_words.specs.Cut.{Pieces, IsSize}
-use Rattle.xb_words.proofs.Cutting.{cut-none, cut-some}
+use Rattle.xb_words.proofs.CutLemmas.{cut-none, cut-some}
 use Rattle.replay_log.specs.Lines.{Line, line_of}
 use Rattle.replay_log.specs.Logs.{Log, ends, onto, said_then, whole, line_clock, short_line, last_line, log_from, line_size, lines, longest_line, log_limit, log_at}
 use Rattle.replay_log.specs.Readings.{last_in, by_size, next_at, log_by}

@@ -1,7 +1,7 @@
 -- Worked logs, by evaluation.
 use Rattle.std.proofs.Common.{◌≡◌, refl, [], ◌∷◌, ◌++◌, codes}
 use Rattle.xb_words.specs.Cut.{cut}
-use Rattle.xb_domain.specs.Actors.{octets, time, rescan}
+use Rattle.xb_domain.specs.Events.{octets, time, rescan}
 use Rattle.replay_log.specs.Lines.{line_of, event_of_words}
 use Rattle.replay_log.specs.Logs.{log, log_at, whole, bad}
 use Rattle.replay_log.specs.Readings.{next_at, line, end}

@@ -2,8 +2,8 @@
 use Rattle.std.specs.Prelude.{ℕ, ◌+◌, ◌-◌, ◌*◌, ◌^◌, ◌≤◌, List, [], ◌∷◌, Option, Some, None, nat_le, codes, ◌==◌, if◌then◌else◌}
 use Rattle.std.specs.Str.{bytes_eq}
 use Rattle.xb_words.specs.Optional.{◌>>=◌}
-use Rattle.xb_domain.specs.Actors.{Event, start, stop, up, down, octets, time, room, drain, rescan}
-use Rattle.xb_values.specs.Readers.{parts, number_up_to, hex_value, read_hex}
+use Rattle.xb_domain.specs.Events.{Event, start, stop, up, down, octets, time, room, drain, rescan}
+use Rattle.xb_values.specs.Readers.{split_on, number_up_to, hex_value, read_hex}
 
 -- what a line says: nothing, or an event
 pub data Line : Type 0 where
@@ -104,5 +104,5 @@ line_of peers now (c ∷ text) =
     if c == 35 then Some blank
     else
     (do
-      e ← event_of_words peers now (parts 32 (c ∷ text))
+      e ← event_of_words peers now (split_on 32 (c ∷ text))
       Some (says e))

@@ -1,7 +1,7 @@
 -- The event log: lines that end with the octet 0A (this project's own).
 use Rattle.std.specs.Prelude.{ℕ, ◌+◌, ◌-◌, Bool, List, [], ◌∷◌, length, take, drop, position, Option, Some, None, nat_lt, ◌==◌, if◌then◌else◌}
 use Rattle.xb_words.specs.Cut.{Pieces, cut}
-use Rattle.xb_domain.specs.Actors.{Event, time}
+use Rattle.xb_domain.specs.Events.{Event, time}
 use Rattle.replay_log.specs.Lines.{Line, blank, says, line_of}
 
 -- how many octets a line may have without its end, and how many a log

@@ -1,6 +1,6 @@
 //! Laws of the definitions. Each is the contract of a function that does nothing.
 ghost use Rattle.std.specs.Prelude.{◌≡◌, ℕ, List, Some};
-ghost use Rattle.xb_domain.specs.Actors.{Event};
+ghost use Rattle.xb_domain.specs.Events.{Event};
 ghost use Rattle.replay_log.specs.Lines.{line_of, says, IsFor};
 ghost use Rattle.replay_log.specs.Logs.{log_at};
 ghost use Rattle.replay_log.specs.Readings.{next_at, log_by};

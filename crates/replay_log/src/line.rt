@@ -2,8 +2,9 @@ ghost use Rattle.std.specs.Prelude.{◌≡◌, ℕ, ◌≤◌, ◌∷◌, length
 ghost use Rattle.std.specs.Borrow.{sem};
 ghost use Rattle.std.specs.Option.{option_map};
 ghost use Rattle.std.specs.Str.{bytes_eq};
-ghost use Rattle.xb_domain.specs.Actors.{event_of, octets as octets_in, rescan};
-ghost use Rattle.xb_values.specs.Readers.{parts, number_up_to};
+ghost use Rattle.xb_domain.specs.Views.{event_view};
+ghost use Rattle.xb_domain.specs.Events.{octets as octets_in, rescan};
+ghost use Rattle.xb_values.specs.Readers.{split_on, number_up_to};
 ghost use Rattle.replay_log.specs.Lines.{at_least, peer_event, event_of_words, line_of};
 ghost use Rattle.replay_log.specs.Logs.{longest_line};
 ghost use Rattle.replay_log.specs.Said.{said, told_with, KeepsRoom};
@@ -41,7 +42,7 @@ fn number_in(text: &[u8], least: u32, most: u32) -> Option<u32>
 
 // The event of a word behind which a peer stands alone.
 fn peer_event(word: &[u8], peer: u32) -> Option<Event<'static>>
-    ensures { option_map event_of result ≡ option_map (λ e. e peer) (peer_event word.now) }
+    ensures { option_map event_view result ≡ option_map (λ e. e peer) (peer_event word.now) }
 {
     if word == b"start".as_slice() {
         Some(Event::Start(peer))
@@ -60,7 +61,7 @@ fn peer_event(word: &[u8], peer: u32) -> Option<Event<'static>>
 
 // The event of a word behind which nothing stands.
 fn lone_event(word: &[u8]) -> Option<Event<'static>>
-    ensures { option_map event_of result ≡ (if bytes_eq word.now (codes "rescan") then Some rescan else None) }
+    ensures { option_map event_view result ≡ (if bytes_eq word.now (codes "rescan") then Some rescan else None) }
 {
     if word == b"rescan".as_slice() {
         Some(Event::Rescan)
@@ -72,7 +73,7 @@ fn lone_event(word: &[u8]) -> Option<Event<'static>>
 // The event of a word and what stands behind it, but for octets.
 fn event_behind(word: &[u8], arguments: &[u8], peers: u32, now: u32) -> Option<Event<'static>>
     requires { bytes_eq word.now (codes "in") ≡ false }
-    ensures { option_map event_of result ≡ event_of_words peers now (word.now ∷ parts 32 arguments.now) }
+    ensures { option_map event_view result ≡ event_of_words peers now (word.now ∷ split_on 32 arguments.now) }
 {
     if word == b"room".as_slice() {
         let (peer, count) = split_once(arguments, b' ')?;
@@ -89,7 +90,7 @@ fn event_behind(word: &[u8], arguments: &[u8], peers: u32, now: u32) -> Option<E
 fn octets_behind(arguments: &[u8], peers: u32, octets: &mut Buf) -> Option<u32>
     requires short { length arguments.now ≤ 8400 }
     requires room { 4200 ≤ octets.old.capacity }
-    ensures event { (now : ℕ) → option_map (λ p. octets_in p octets.new.octets) result ≡ event_of_words peers now (codes "in" ∷ parts 32 arguments.now) }
+    ensures event { (now : ℕ) → option_map (λ p. octets_in p octets.new.octets) result ≡ event_of_words peers now (codes "in" ∷ split_on 32 arguments.now) }
     ensures capacity { octets.new.capacity ≡ octets.old.capacity }
 {
     let (peer, digits) = split_once(arguments, b' ')?;

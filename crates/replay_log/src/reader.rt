@@ -1,5 +1,5 @@
 ghost use Rattle.std.specs.Prelude.{◌≡◌, ◌≢◌, ◌⊎◌, ℕ, ◌+◌, ◌<◌, ◌≤◌, List, [], length, slice_get, Some, IfOk, IfSome, IfErr, OnOk, OnErr, IsErr};
-ghost use Rattle.xb_io.specs.Causes.{Rose, IsMissing, told_text};
+ghost use Rattle.xb_io.specs.Causes.{FaultsRose, IsMissing, told_file};
 ghost use Rattle.replay_log.specs.Logs.{log_limit, longest_line};
 ghost use Rattle.replay_log.specs.Readings.{next_at, answered, StandsAhead};
 
@@ -49,11 +49,11 @@ impl Model for LogReader {
 // The octet at a place, or None behind the last one.
 fn octet_at<S: Shelf>(shelf: &mut S, name: &str, at: u64) -> Result<Option<u8>, Failed>
     ensures same { S.held shelf.new ≡ S.held shelf.old }
-    ensures octet { (log : List ℕ) → told_text (S.held shelf.old) name.now ≡ Some log → IfOk result (λ o. o ≡ slice_get log at) }
+    ensures octet { (log : List ℕ) → told_file (S.held shelf.old) name.now ≡ Some log → IfOk result (λ o. o ≡ slice_get log at) }
     ensures missing { IsMissing (S.held shelf.old) name.now → IsErr result }
     ensures quiet { OnOk result (S.faults shelf.new ≡ S.faults shelf.old) }
     ensures later { S.faults shelf.old ≤ S.faults shelf.new }
-    ensures cause { OnErr result (Rose (S.faults shelf.old) (S.faults shelf.new) ⊎ IsMissing (S.held shelf.old) name.now) }
+    ensures cause { OnErr result (FaultsRose (S.faults shelf.old) (S.faults shelf.new) ⊎ IsMissing (S.held shelf.old) name.now) }
 {
     let mut octet = [0u8];
     match shelf.read(name, at, &mut octet)? {
@@ -66,7 +66,7 @@ fn octet_at<S: Shelf>(shelf: &mut S, name: &str, at: u64) -> Result<Option<u8>, 
 fn read_line<S: Shelf>(shelf: &mut S, name: &str, start: u64, line: &mut Buf) -> (Got, u64)
     requires start { start ≤ LOG_LIMIT }
     requires empty { line.old ≡ record { octets = []; capacity = LINE_LIMIT } }
-    ensures told { (log : List ℕ) → told_text (S.held shelf.old) name.now ≡ Some log
+    ensures told { (log : List ℕ) → told_file (S.held shelf.old) name.now ≡ Some log
         → IfSome (answered result.0 (record { line = line.new.octets; at = result.1; ahead = [] })) (λ next. next ≡ next_at log start) }
     ensures missing { IsMissing (S.held shelf.old) name.now → result.0 ≡ Got.Failed }
     ensures forward { result.0 ≡ Got.Line → start < result.1 }
@@ -76,7 +76,7 @@ fn read_line<S: Shelf>(shelf: &mut S, name: &str, start: u64, line: &mut Buf) ->
     ensures same { S.held shelf.new ≡ S.held shelf.old }
     ensures quiet { result.0 ≢ Got.Failed → S.faults shelf.new ≡ S.faults shelf.old }
     ensures later { S.faults shelf.old ≤ S.faults shelf.new }
-    ensures cause { result.0 ≡ Got.Failed → Rose (S.faults shelf.old) (S.faults shelf.new) ⊎ IsMissing (S.held shelf.old) name.now }
+    ensures cause { result.0 ≡ Got.Failed → FaultsRose (S.faults shelf.old) (S.faults shelf.new) ⊎ IsMissing (S.held shelf.old) name.now }
 {
     let mut place = start;
     'octets: loop {
@@ -111,7 +111,7 @@ impl LogReader {
     /// Reads the next line of the log of that name. Another answer than `Line` leaves the reader where it stands.
     pub fn next_line<S: Shelf>(&mut self, shelf: &mut S, name: &str) -> Got
         requires { StandsAhead (S.held shelf.old) name.now self.old }
-        ensures told { (log : List ℕ) → told_text (S.held shelf.old) name.now ≡ Some log
+        ensures told { (log : List ℕ) → told_file (S.held shelf.old) name.now ≡ Some log
             → IfSome (answered result self.new) (λ next. next ≡ next_at log self.old.at) }
         ensures forward { result ≡ Got.Line → self.old.at < self.new.at }
         ensures within { self.new.at ≤ log_limit }
@@ -120,7 +120,7 @@ impl LogReader {
         ensures missing { IsMissing (S.held shelf.old) name.now → result ≡ Got.Failed }
 
         // A failure has its cause; without one the shelf's count stays, and what it holds stays always.
-        ensures cause { result ≡ Got.Failed → Rose (S.faults shelf.old) (S.faults shelf.new) ⊎ IsMissing (S.held shelf.old) name.now }
+        ensures cause { result ≡ Got.Failed → FaultsRose (S.faults shelf.old) (S.faults shelf.new) ⊎ IsMissing (S.held shelf.old) name.now }
         ensures quiet { result ≢ Got.Failed → S.faults shelf.new ≡ S.faults shelf.old }
         ensures later { S.faults shelf.old ≤ S.faults shelf.new }
         ensures same { S.held shelf.new ≡ S.held shelf.old }

@@ -6,10 +6,12 @@
 //! may use this one name.
 #![tactic(auto)]
 
-pub use xb_domain::{BadKind, Event, Part, Point, Side, helper_allowed};
-pub use xb_io::{Failed, FileShelf, MemShelf, MemSink, Shelf, Sink, StdSink, gather};
-pub use xb_values::{
-    Buf, Prefix, append_decimal, append_hex, append_prefix, push_decimal, push_dotted, push_hex,
-    push_prefix, read_decimal, read_dotted, read_prefix, split_once,
+pub use xb_domain::{BadKind, Event, Output, Outputs, Packing, Part, Point, Side, helper_allowed};
+pub use xb_io::{
+    Failed, FileShelf, Halt, MemShelf, MemSink, Shelf, Sink, StdSink, begin_line, gather, put_text,
 };
-pub use xb_wire::{HeaderFault, Notice, fault_in_header, laws};
+pub use xb_values::{
+    Brand, Buf, Prefix, Steps, append_decimal, append_hex, append_prefix, push_decimal,
+    push_dotted, push_hex, push_prefix, read_decimal, read_dotted, read_prefix, split_once,
+};
+pub use xb_wire::{HeaderFault, Notice, fault_in_header, laws, numbers};

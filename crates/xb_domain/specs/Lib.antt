@@ -1,1 +1,4 @@
-pub mod Actors
+pub mod Events
+pub mod Outputs
+pub mod Points
+pub mod Views

@@ -8,44 +8,44 @@ use Rattle.std.specs.Str.{bytes_eq}
 abbrev pub Files : Type 0
 Files = List (List ℕ × List ℕ)
 
--- the octets of a name, where it is held
+-- the octets of a name, if it is held
 abbrev pub file_named : Files → List ℕ → Option (List ℕ)
 file_named files name = lookup (λ key. bytes_eq name key) files
 
--- the octets under a name, where the shelf tells and holds it
-abbrev pub told_text : Option Files → List ℕ → Option (List ℕ)
-told_text None name = None
-told_text (Some files) name = file_named files name
+-- the octets of a name, if the shelf tells and holds it
+abbrev pub told_file : Option Files → List ℕ → Option (List ℕ)
+told_file None name = None
+told_file (Some files) name = file_named files name
 
--- a count of faults rose in a call: it is greater than before, or stands at its type's end
-abbrev pub Rose : ℕ → ℕ → Type 0
-Rose before now = (before < now) ⊎ (now ≡ 2 ^ 64 - 1)
+-- a count of faults rose in a call: it is greater than before, or is at its type's end
+abbrev pub FaultsRose : ℕ → ℕ → Type 0
+FaultsRose before now = (before < now) ⊎ (now ≡ 2 ^ 64 - 1)
 
 -- a count of calls or faults after one more, which stays at its type's end
 abbrev pub one_more : ℕ → ℕ
 one_more count = min (count + 1) (2 ^ 64 - 1)
 
--- the first n of buf are the octets that stand at a place; n is 0 only where none stands there or buf has no room
+-- the first n of buf are the octets at an offset; n is 0 only if there are no octets there or buf has no room
 pub record ReadsPart (octets : List ℕ) (at : ℕ) (buf : List ℕ) (n : ℕ) : Type 0 where
   pub part : take n buf ≡ take n (drop at octets)
   pub fits : n ≤ length buf
   pub within : n ≤ length octets - at
   pub progress : 0 < length buf → at < length octets → 0 < n
 
--- what a read of n octets gave, where the shelf tells what it holds; a name that it does not hold is never read
+-- what a read of n octets gave; of a shelf that tells, a name that it does not hold is never read
 abbrev pub Reads : Option Files → List ℕ → ℕ → List ℕ → ℕ → Type 0
 Reads None name at buf n = n ≤ length buf
 Reads (Some files) name at buf n = MatchOption (file_named files name) ⊥ (λ octets. ReadsPart octets at buf n)
 
--- the shelf tells what it holds, and the name is not there
+-- the shelf tells what it holds, and does not hold the name
 abbrev pub IsMissing : Option Files → List ℕ → Type 0
 IsMissing None name = ⊥
 IsMissing (Some files) name = IsNone (file_named files name)
 
--- what a sink took, where it tells, with a text behind it
-abbrev pub and_then : Option (List ℕ) → List ℕ → Option (List ℕ)
-and_then before text = option_map (λ taken. taken ++ text) before
+-- what a sink took, if it tells, and then a text
+abbrev pub with_text : Option (List ℕ) → List ℕ → Option (List ℕ)
+with_text before text = option_map (λ taken. taken ++ text) before
 
 -- a sink took a front of the text, be it none or all of it
 abbrev pub TookFront : Option (List ℕ) → Option (List ℕ) → List ℕ → Type 0
-TookFront before now text = (n : ℕ) × (now ≡ and_then before (take n text))
+TookFront before now text = (n : ℕ) × (now ≡ with_text before (take n text))

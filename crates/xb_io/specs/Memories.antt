@@ -10,7 +10,7 @@ pub record Held : Type 0 where
   pub failing : List ℕ
   pub faults : ℕ
 
--- what was taken, how much it may be at most, how many calls were made, which calls fail, and how many faults there were
+-- what was taken, how many octets that may be at most, how many calls were made, which calls fail, and how many faults there were
 pub record Taken : Type 0 where
   pub taken : List ℕ
   pub room : ℕ
@@ -18,6 +18,7 @@ pub record Taken : Type 0 where
   pub failing : List ℕ
   pub faults : ℕ
 
--- the new files are the old ones, but for one name, which has these octets
+-- the new files are the old ones, except that one name has these octets
 abbrev pub HoldsAlso : Files → Files → List ℕ → List ℕ → Type 0
-HoldsAlso old new name octets = (other : List ℕ) → file_named new other ≡ (if bytes_eq name other then Some octets else file_named old other)
+HoldsAlso old new name octets =
+    (other : List ℕ) → file_named new other ≡ (if bytes_eq name other then Some octets else file_named old other)

@@ -1,6 +1,7 @@
+//! A shelf and a sink in memory, whose calls fail as their caller has said: what tests and proofs run over.
 ghost use Rattle.std.specs.Prelude.{◌≡◌, ◌+◌, ◌-◌, ◌<◌, ◌≤◌, ◌⊎◌, ◌↔◌, [], ◌∷◌, ◌++◌, length, take, Some, IsNone, IsTrue, IfOk, IsErr, OnOk, OnErr, Contains};
 ghost use Rattle.std.specs.Option.{option_copied};
-ghost use Rattle.xb_io.specs.Causes.{Rose, one_more, IsMissing, Reads, ReadsPart, file_named, TookFront, and_then};
+ghost use Rattle.xb_io.specs.Causes.{FaultsRose, one_more, IsMissing, Reads, ReadsPart, file_named, TookFront, with_text};
 ghost use Rattle.xb_io.specs.Entries.{files_of};
 ghost use Rattle.xb_io.specs.Memories.{HoldsAlso};
 
@@ -10,7 +11,7 @@ use std::collections::BTreeMap;
 use std::marker::Model;
 use xb_values::Buf;
 
-/// A shelf in memory. A read fails where its number is in a list, and at a name that is not there.
+/// A shelf in memory. A read fails if its number is in a list, and at a name that is not held.
 #[derive(Drop)]
 pub struct MemShelf {
     alloc: Global,
@@ -26,10 +27,15 @@ impl Model for MemShelf {
 
     ghost Value = { Held };
 
-    ghost view = { λ s. record { files = files_of s.entries.entries; calls = s.calls; failing = s.failing.items; faults = s.faults } };
+    ghost view = { λ s. record {
+      files = files_of s.entries.entries;
+      calls = s.calls;
+      failing = s.failing.items;
+      faults = s.faults;
+    } };
 }
 
-// Copies the octets from a place on, as far as they fit.
+// Copies the octets from offset `at`, as far as they fit, and returns how many.
 fn copy_from(octets: &[u8], at: u64, buf: &mut [u8]) -> usize
     ensures { ReadsPart octets.now at buf.new result }
 {
@@ -42,8 +48,8 @@ fn copy_from(octets: &[u8], at: u64, buf: &mut [u8]) -> usize
     count
 }
 
-// The octets of a name.
-#[tactic(auto, using(crate::proofs::MemoryLemmas::file_of_entries))]
+// The octets of a name, if it is held.
+#[tactic(auto, using(crate::proofs::MemoryLemmas::file_named_in_entries))]
 fn octets_named<'a>(entries: &'a BTreeMap<String, Vec<u8>>, name: &str) -> Option<&'a [u8]>
     ensures { option_copied result ≡ file_named (files_of entries.now.entries) name.now }
 {
@@ -53,10 +59,11 @@ fn octets_named<'a>(entries: &'a BTreeMap<String, Vec<u8>>, name: &str) -> Optio
     }
 }
 
-// Appends what fits of the bytes, and answers whether all do.
+// Appends what fits of the bytes, and returns whether all do.
 fn push_front(out: &mut Buf, bytes: &[u8]) -> bool
     ensures fits { IsTrue result ↔ (length out.old.octets + length bytes.now ≤ out.old.capacity) }
-    ensures front { out.new ≡ record out.old { octets = out.old.octets ++ take (out.old.capacity - length out.old.octets) bytes.now } }
+    ensures front { let space = out.old.capacity - length out.old.octets
+        in out.new ≡ record out.old { octets = out.old.octets ++ take space bytes.now } }
 {
     let space = out.room();
     if bytes.len() > space {
@@ -67,6 +74,7 @@ fn push_front(out: &mut Buf, bytes: &[u8]) -> bool
 }
 
 impl MemShelf {
+    /// A shelf that holds nothing and fails at no call. The error is want of memory.
     pub fn make(alloc: Global) -> Result<MemShelf, AllocError>
         ensures { IfOk result (λ s. s ≡ record { files = []; calls = 0; failing = []; faults = 0 }) }
     {
@@ -79,7 +87,8 @@ impl MemShelf {
         })
     }
 
-    /// Holds the octets under the name, in place of those that it held there.
+    /// Holds the octets under the name, and no longer those that it held there. The error is want of memory; then nothing
+    /// changed.
     pub fn add(&mut self, name: &str, bytes: &[u8]) -> Result<(), AllocError>
         ensures held { OnOk result (HoldsAlso self.old.files self.new.files name.now bytes.now) }
         ensures others { OnOk result (self.new ≡ record self.old { files = self.new.files }) }
@@ -91,7 +100,7 @@ impl MemShelf {
         Ok(())
     }
 
-    /// The call of that number, counted from 1, will fail.
+    /// The call of that number, counted from 1, will fail. The error is want of memory; then nothing changed.
     pub fn fail_at(&mut self, call: u64) -> Result<(), AllocError>
         ensures ok { OnOk result (self.new ≡ record self.old { failing = self.old.failing ++ call ∷ [] }) }
         ensures err { OnErr result (self.new ≡ self.old) }
@@ -111,7 +120,7 @@ impl Shelf for MemShelf {
         ensures read { IfOk result (λ n. Reads (Some self.old.files) name.now at buf.new n) }
         ensures quiet { OnOk result (self.new.faults ≡ self.old.faults) }
         ensures later { self.old.faults ≤ self.new.faults }
-        ensures cause { OnErr result (Rose self.old.faults self.new.faults ⊎ IsMissing (Some self.old.files) name.now) }
+        ensures cause { OnErr result (FaultsRose self.old.faults self.new.faults ⊎ IsMissing (Some self.old.files) name.now) }
 
         // It fails exactly by the number of the call and at an absent name; the number alone counts as a fault.
         ensures counted { self.new ≡ record self.old { calls = one_more self.old.calls; faults = self.new.faults } }
@@ -131,7 +140,7 @@ impl Shelf for MemShelf {
     }
 }
 
-/// A sink in memory, of fixed room. A put fails where its number is in a list, and where it passes the room.
+/// A sink in memory, of fixed room. A call of `put` fails if its number is in a list, and if the octets pass the room.
 #[derive(Drop)]
 pub struct MemSink {
     taken: Buf,
@@ -145,10 +154,17 @@ impl Model for MemSink {
 
     ghost Value = { Taken };
 
-    ghost view = { λ s. record { taken = s.taken.octets; room = s.taken.capacity; calls = s.calls; failing = s.failing.items; faults = s.faults } };
+    ghost view = { λ s. record {
+      taken = s.taken.octets;
+      room = s.taken.capacity;
+      calls = s.calls;
+      failing = s.failing.items;
+      faults = s.faults;
+    } };
 }
 
 impl MemSink {
+    /// An empty sink that takes at most `room` octets in all. The error is want of memory.
     pub fn make(alloc: Global, room: usize) -> Result<MemSink, AllocError>
         ensures { IfOk result (λ s. s ≡ record { taken = []; room = room; calls = 0; failing = []; faults = 0 }) }
     {
@@ -160,7 +176,7 @@ impl MemSink {
         })
     }
 
-    /// The call of that number, counted from 1, will fail.
+    /// The call of that number, counted from 1, will fail. The error is want of memory; then nothing changed.
     pub fn fail_at(&mut self, call: u64) -> Result<(), AllocError>
         ensures ok { OnOk result (self.new ≡ record self.old { failing = self.old.failing ++ call ∷ [] }) }
         ensures err { OnErr result (self.new ≡ self.old) }
@@ -169,6 +185,7 @@ impl MemSink {
         Ok(())
     }
 
+    /// All that was taken, in order.
     pub fn taken(&self) -> &[u8]
         ensures { result.now ≡ self.now.taken }
     {
@@ -182,17 +199,20 @@ impl Sink for MemSink {
     ghost faults = { λ s. s.faults };
 
     fn put(&mut self, bytes: &[u8]) -> Result<(), Failed>
-        ensures all { OnOk result (Some self.new.taken ≡ and_then (Some self.old.taken) bytes.now) }
+        ensures all { OnOk result (Some self.new.taken ≡ with_text (Some self.old.taken) bytes.now) }
         ensures front { TookFront (Some self.old.taken) (Some self.new.taken) bytes.now }
         ensures quiet { OnOk result (self.new.faults ≡ self.old.faults) }
         ensures later { self.old.faults ≤ self.new.faults }
-        ensures cause { OnErr result (Rose self.old.faults self.new.faults) }
+        ensures cause { OnErr result (FaultsRose self.old.faults self.new.faults) }
 
-        // It fails exactly by the number of the call and past the room, where it takes what fits.
-        ensures counted { self.new ≡ record self.old { calls = one_more self.old.calls; taken = self.new.taken; faults = self.new.faults } }
-        ensures fails { IsErr result ↔ (Contains self.old.failing self.new.calls ⊎ (self.old.room < length self.old.taken + length bytes.now)) }
+        // It fails exactly by the number of the call and past the room; past the room it takes what fits.
+        ensures counted { self.new
+            ≡ record self.old { calls = one_more self.old.calls; taken = self.new.taken; faults = self.new.faults } }
+        ensures fails { IsErr result
+            ↔ (Contains self.old.failing self.new.calls ⊎ (self.old.room < length self.old.taken + length bytes.now)) }
         ensures listed { Contains self.old.failing self.new.calls → self.new.taken ≡ self.old.taken }
-        ensures fitting { ¬ Contains self.old.failing self.new.calls → self.new.taken ≡ self.old.taken ++ take (self.old.room - length self.old.taken) bytes.now }
+        ensures fitting { ¬ Contains self.old.failing self.new.calls
+            → self.new.taken ≡ self.old.taken ++ take (self.old.room - length self.old.taken) bytes.now }
         ensures one_fault { OnErr result (self.new.faults ≡ one_more self.old.faults) }
     {
         self.calls = self.calls.saturating_add(1);

@@ -1,3 +1,4 @@
+//! The real files and standard output. They do not tell: no contract can say what a file holds.
 ghost use Rattle.std.specs.Prelude.{◌≡◌, ◌≤◌, length, IfOk, None};
 
 use crate::{Failed, Shelf, Sink};
@@ -7,8 +8,8 @@ use std::io::{Read, Seek, SeekFrom};
 use std::marker::Model;
 use std::rt::Files;
 
-// A file that is open, and the place that its next read begins at. Where there was no memory for its name, it has none, and
-// is opened anew for the next read.
+// A file that is open, and the offset at which its next read begins. If there was no memory for its name, the file is opened
+// again for the next read.
 #[derive(Drop)]
 struct OpenFile<F> {
     name: Option<String>,
@@ -16,8 +17,8 @@ struct OpenFile<F> {
     file: F,
 }
 
-/// The real files. It does not tell what they hold. The file that was read last stays open, so that a file that can be
-/// read only from its front on, as a pipe, is read as well.
+/// The real files. It does not tell what they hold. The file that was read last stays open, so that a file that can only be
+/// read from its front, as a pipe, is read as well.
 #[derive(Drop)]
 pub struct FileShelf<'a, R: Files> {
     files: &'a R,
@@ -35,6 +36,7 @@ impl<'a, R: Files> Model for FileShelf<'a, R> {
 }
 
 impl<'a, R: Files> FileShelf<'a, R> {
+    /// A shelf that has not failed yet.
     pub fn new(files: &'a R) -> FileShelf<'a, R>
         ensures { result ≡ 0 }
     {
@@ -46,6 +48,7 @@ impl<'a, R: Files> FileShelf<'a, R> {
     }
 }
 
+// Whether the open file has that name.
 fn is_named<F>(open: &OpenFile<F>, name: &str) -> bool {
     match &open.name {
         Some(known) => known.as_str() == name,
@@ -53,7 +56,7 @@ fn is_named<F>(open: &OpenFile<F>, name: &str) -> bool {
     }
 }
 
-// The file of that name, opened anew unless it is the one that is open.
+// The file of that name: the one that is open, or else opened.
 fn open_file<R: Files + AllocGlobal>(
     files: &R,
     open: Option<OpenFile<R::File>>,
@@ -69,7 +72,7 @@ fn open_file<R: Files + AllocGlobal>(
     }
 }
 
-// Reads from a place on, to which it moves only where it does not stand there.
+// Reads from offset `at`, and moves to it first if the file is at another.
 fn read_at<F: Read + Seek>(open: &mut OpenFile<F>, at: u64, buf: &mut [u8]) -> io::Result<usize>
     ensures { IfOk result (λ n. n ≤ length buf.new) }
 {
@@ -81,6 +84,7 @@ fn read_at<F: Read + Seek>(open: &mut OpenFile<F>, at: u64, buf: &mut [u8]) -> i
     Ok(count)
 }
 
+// Reads from the named file, and keeps it open if the read succeeds.
 fn read_file<R: Files + AllocGlobal>(
     shelf: &mut FileShelf<'_, R>,
     name: &str,
@@ -129,6 +133,7 @@ impl<'a, P: Print> Model for StdSink<'a, P> {
 }
 
 impl<'a, P: Print> StdSink<'a, P> {
+    /// A sink that has not failed yet.
     pub fn new(out: &'a P) -> StdSink<'a, P>
         ensures { result ≡ 0 }
     {

@@ -8,17 +8,17 @@ use Rattle.std.proofs.lemmas.Cmp.{on_total, then_total, nat_cmp_total}
 use Rattle.xb_words.specs.Cut.{IsSize}
 use Rattle.xb_values.specs.Prefixes.{prefix_of, prefix_cmp, IsPrefix, octets_for, prefix_size}
 
-again : (a s : ℕ) → 0 < s → a / s * s / s * s ≡ a / s * s
-again a s h = ap (λ (q : ℕ). q * s) (mul-div_cancel (a / s) h)
+cleared-cleared : (a s : ℕ) → 0 < s → a / s * s / s * s ≡ a / s * s
+cleared-cleared a s h = ap (λ (q : ℕ). q * s) (mul-div_cancel (a / s) h)
 
-pub prefix_is_one : (addr len : ℕ) → addr < 2 ^ 32 → len ≤ 32 → IsPrefix (prefix_of addr len)
-prefix_is_one addr len word short =
-    record { len = short; addr = omega (arith, div-mul-le_self addr (2 ^ (32 - len))); clear = again addr (2 ^ (32 - len)) (pow_pos (32 - len)) }
+pub prefix_of_is_prefix : (addr len : ℕ) → addr < 2 ^ 32 → len ≤ 32 → IsPrefix (prefix_of addr len)
+prefix_of_is_prefix addr len word short =
+    record { len = short; addr = omega (arith, div-mul-le_self addr (2 ^ (32 - len))); clear = cleared-cleared addr (2 ^ (32 - len)) (pow_pos (32 - len)) }
 
 -- a prefix has at least its length, and does not pass the end
-pub prefix_is_size : IsSize prefix_size
-prefix_is_size [] n e = cc
-prefix_is_size (len ∷ rest) n e =
+pub prefix_size_is_size : IsSize prefix_size
+prefix_size_is_size [] n e = cc
+prefix_size_is_size (len ∷ rest) n e =
     elim (cases_Bool (nat_le len 32 && nat_le (octets_for len) (length rest))) [
       | inl fits ↦
           let size : Some (1 + octets_for len) ≡ Some n = rw fits at e in
@@ -29,5 +29,5 @@ prefix_is_size (len ∷ rest) n e =
     ]
 
 -- the order of prefixes is total
-pub prefix_cmp_total : IsTotalOrder prefix_cmp
-prefix_cmp_total = then_total (on_total (λ p. p.addr) nat_cmp_total) (on_total (λ p. p.len) nat_cmp_total)
+pub prefix_cmp_is_total : IsTotalOrder prefix_cmp
+prefix_cmp_is_total = then_total (on_total (λ p. p.addr) nat_cmp_total) (on_total (λ p. p.len) nat_cmp_total)

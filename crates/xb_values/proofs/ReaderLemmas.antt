@@ -9,18 +9,18 @@ use Rattle.std.specs.Option.{option_map}
 use Rattle.xb_words.specs.Optional.{◌>>=◌}
 use Rattle.xb_words.specs.Octets.{four_at}
 use Rattle.xb_values.specs.Prefixes.{Prefix, prefix_of}
-use Rattle.xb_values.specs.Readers.{parts, onto_first, is_digit, is_decimal, digits_value, number_up_to, read_dotted, read_prefix}
+use Rattle.xb_values.specs.Readers.{split_on, with_first_octet, is_digit, is_decimal, digits_value, number_up_to, read_dotted, read_prefix}
 
 -- the parts of a text, by the length of its first part
-parts_none : (c : ℕ) (text : List ℕ) → length text ≤ position_or_len (λ x. x == c) text → parts c text ≡ text ∷ []
+parts_none : (c : ℕ) (text : List ℕ) → length text ≤ position_or_len (λ x. x == c) text → split_on c text ≡ text ∷ []
 parts_none c [] h = refl
 parts_none c (x ∷ text) h =
     elim (cases_Bool (x == c)) [
       | inl is ↦ let zero : length (x ∷ text) ≤ 0 = rw is at h in absurd (omega arith)
-      | inr other ↦ let more : length (x ∷ text) ≤ 1 + position_or_len (λ x. x == c) text = rw other at h in rw other (ap (onto_first x) (parts_none c text (omega arith)))
+      | inr other ↦ let more : length (x ∷ text) ≤ 1 + position_or_len (λ x. x == c) text = rw other at h in rw other (ap (with_first_octet x) (parts_none c text (omega arith)))
     ]
 
-parts_some : (c : ℕ) (text : List ℕ) (n : ℕ) → n ≡ position_or_len (λ x. x == c) text → n < length text → parts c text ≡ take n text ∷ parts c (drop (n + 1) text)
+parts_some : (c : ℕ) (text : List ℕ) (n : ℕ) → n ≡ position_or_len (λ x. x == c) text → n < length text → split_on c text ≡ take n text ∷ split_on c (drop (n + 1) text)
 parts_some c [] n e h = absurd (omega arith)
 parts_some c (x ∷ text) n e h =
     elim (cases_Bool (x == c)) [
@@ -29,18 +29,18 @@ parts_some c (x ∷ text) n e h =
           let m = position_or_len (λ x. x == c) text in
           let more : n ≡ suc m = (rw other at e) ∙ omega arith in
           let next : suc m + 1 ≡ suc (m + 1) = omega arith in
-          rw (more, next) (rw other (ap (onto_first x) (parts_some c text m refl (omega arith))))
+          rw (more, next) (rw other (ap (with_first_octet x) (parts_some c text m refl (omega arith))))
     ]
 
-pub whole_part : (c : ℕ) (text : List ℕ) → None ≡ position (λ x. x == c) text → parts c text ≡ text ∷ []
-whole_part c text e =
+pub split_on-whole : (c : ℕ) (text : List ℕ) → None ≡ position (λ x. x == c) text → split_on c text ≡ text ∷ []
+split_on-whole c text e =
     elim (cases_lt (position_or_len (λ x. x == c) text) (length text)) [
       | inl lt ↦ let wrong : None ≡ Some (position_or_len (λ x. x == c) text) = rw (lt-ltb _ _ lt) at e in cc wrong
       | inr ge ↦ parts_none c text ge
     ]
 
-pub first_part : (c : ℕ) (text : List ℕ) (at : ℕ) → Some at ≡ position (λ x. x == c) text → parts c text ≡ take at text ∷ parts c (take (length text - (at + 1)) (drop (at + 1) text))
-first_part c text at e =
+pub split_on-first : (c : ℕ) (text : List ℕ) (at : ℕ) → Some at ≡ position (λ x. x == c) text → split_on c text ≡ take at text ∷ split_on c (take (length text - (at + 1)) (drop (at + 1) text))
+split_on-first c text at e =
     elim (cases_lt (position_or_len (λ x. x == c) text) (length text)) [
       | inl lt ↦
           let is : Some at ≡ Some (position_or_len (λ x. x == c) text) = rw (lt-ltb _ _ lt) at e in
@@ -50,16 +50,16 @@ first_part c text at e =
     ]
 
 -- what digits say behind a value, where no step passes 64 bits
-abbrev pub value_on : ℕ → List ℕ → Option ℕ
-value_on value [] = Some value
-value_on value (c ∷ text) = if is_digit c && nat_le (value * 10 + (c - 48)) (2 ^ 64 - 1) then value_on (value * 10 + (c - 48)) text else None
+abbrev pub value_after : ℕ → List ℕ → Option ℕ
+value_after value [] = Some value
+value_after value (c ∷ text) = if is_digit c && nat_le (value * 10 + (c - 48)) (2 ^ 64 - 1) then value_after (value * 10 + (c - 48)) text else None
 
 abbrev pub said_on : ℕ → List ℕ → Option ℕ
 said_on value text =
     let said = number_from_digits_after 10 value (map (λ c. c - 48) text) in
     if list_all is_digit text && nat_le said (2 ^ 64 - 1) then Some said else None
 
-value_on-is : (value : ℕ) (text : List ℕ) → value ≤ 2 ^ 64 - 1 → value_on value text ≡ said_on value text
+value_on-is : (value : ℕ) (text : List ℕ) → value ≤ 2 ^ 64 - 1 → value_after value text ≡ said_on value text
 value_on-is value [] fits = rw (le-leb value (2 ^ 64 - 1) fits) refl
 value_on-is value (c ∷ text) fits =
     elim (cases_Bool (is_digit c)) [
@@ -75,54 +75,54 @@ value_on-is value (c ∷ text) fits =
       | inr none ↦ rw none refl
     ]
 
-pub value_is : (text : List ℕ) → value_on 0 text ≡ (if list_all is_digit text && nat_le (digits_value text) (2 ^ 64 - 1) then Some (digits_value text) else None)
-value_is text = value_on-is 0 text (omega arith)
+pub value_after-zero : (text : List ℕ) → value_after 0 text ≡ (if list_all is_digit text && nat_le (digits_value text) (2 ^ 64 - 1) then Some (digits_value text) else None)
+value_after-zero text = value_on-is 0 text (omega arith)
 
-pub value_ends : (value index : ℕ) (text : List ℕ) → length text ≤ index → value_on value (drop index text) ≡ value_on 0 text
+pub value_after-end : (value index : ℕ) (text : List ℕ) → length text ≤ index → value_after value (drop index text) ≡ value_after 0 text
     → Some value ≡ (if list_all is_digit text && nat_le (digits_value text) (2 ^ 64 - 1) then Some (digits_value text) else None)
-value_ends value index text ended e =
+value_after-end value index text ended e =
     let nothing : drop index text ≡ [] = drop_all index text ended in
-    ap (value_on value) (sym nothing) ∙ e ∙ value_is text
+    ap (value_after value) (sym nothing) ∙ e ∙ value_after-zero text
 
-pub value_stops : (value index : ℕ) (text : List ℕ) → index < length text → value_on value (drop index text) ≡ value_on 0 text
+pub value_after-stop : (value index : ℕ) (text : List ℕ) → index < length text → value_after value (drop index text) ≡ value_after 0 text
     → None ≡ (if is_digit (get_or text index 0) && nat_le (value * 10 + (get_or text index 0 - 48)) (2 ^ 64 - 1) then Some (value * 10 + (get_or text index 0 - 48)) else None)
     → None ≡ (if list_all is_digit text && nat_le (digits_value text) (2 ^ 64 - 1) then Some (digits_value text) else None)
-value_stops value index text lt e none =
+value_after-stop value index text lt e none =
     let c = get_or text index 0 in
     elim (cases_Bool (is_digit c && nat_le (value * 10 + (c - 48)) (2 ^ 64 - 1))) [
       | inl goes ↦ let wrong : None ≡ Some (value * 10 + (c - 48)) = rw goes at none in cc wrong
       | inr other ↦
-          let stops : value_on value (drop index text) ≡ None = rw (drop-cons text index 0) (rw other refl) in
-          sym stops ∙ e ∙ value_is text
+          let stops : value_after value (drop index text) ≡ None = rw (drop-cons text index 0) (rw other refl) in
+          sym stops ∙ e ∙ value_after-zero text
     ]
 
 -- A text is its only part, or has two parts at least. Then it is not made of octets of a kind that the separator is not of.
-pub parts_cases : (test : ℕ → Bool) (c : ℕ) (text : List ℕ) → test c ≡ false
-    → (parts c text ≡ text ∷ []) ⊎ ((p q : List ℕ) × (ps : List (List ℕ)) × (parts c text ≡ p ∷ q ∷ ps) × (list_all test text ≡ false))
-parts_cases test c [] none = inl refl
-parts_cases test c (x ∷ text) none =
+pub split_on-cases : (test : ℕ → Bool) (c : ℕ) (text : List ℕ) → test c ≡ false
+    → (split_on c text ≡ text ∷ []) ⊎ ((p q : List ℕ) × (ps : List (List ℕ)) × (split_on c text ≡ p ∷ q ∷ ps) × (list_all test text ≡ false))
+split_on-cases test c [] none = inl refl
+split_on-cases test c (x ∷ text) none =
     elim (cases_Bool (x == c)) [
       | inl is ↦
           let here : test x ≡ false = rw (eqb-true x c is) none in
-          elim (parts_cases test c text none) [
+          elim (split_on-cases test c text none) [
             | inl e ↦ inr ([], text, [], rw (is, e) refl, and_left _ _ here)
             | inr (p, q, ps, e, other) ↦ inr ([], p, q ∷ ps, rw (is, e) refl, and_left _ _ here)
           ]
       | inr differs ↦
-          elim (parts_cases test c text none) [
+          elim (split_on-cases test c text none) [
             | inl e ↦ inl (rw (differs, e) refl)
             | inr (p, q, ps, e, other) ↦ inr (x ∷ p, q, ps, rw (differs, e) refl, and_right _ _ other)
           ]
     ]
 
-pub number_none : (limit : ℕ) (text : List ℕ) → list_all is_digit text ≡ false → number_up_to limit text ≡ None
-number_none limit [] e = refl
-number_none limit (c ∷ []) e =
+pub number_up_to-none : (limit : ℕ) (text : List ℕ) → list_all is_digit text ≡ false → number_up_to limit text ≡ None
+number_up_to-none limit [] e = refl
+number_up_to-none limit (c ∷ []) e =
     elim (cases_Bool (is_digit c)) [
       | inl digit ↦ let wrong : true ≡ false = rw digit at e in cc wrong
       | inr other ↦ rw other refl
     ]
-number_none limit (c ∷ d ∷ text) e = cond-false _ _ _ (and_left _ _ (and_right _ _ e))
+number_up_to-none limit (c ∷ d ∷ text) e = cond-false _ _ _ (and_left _ _ (and_right _ _ e))
 
 -- an address of the four numbers
 abbrev pub address_of : Option ℕ → Option ℕ → Option ℕ → Option ℕ → Option ℕ
@@ -153,14 +153,14 @@ no_fourth (Some m) (Some n) None d e = refl
 no_fourth (Some m) (Some n) (Some o) d e = rw e refl
 
 -- an address by its parts, of which the last is what stands behind the third dot
-pub dotted_parts : (text first second third fourth : List ℕ) → parts 46 text ≡ first ∷ second ∷ third ∷ parts 46 fourth
+pub read_dotted-parts : (text first second third fourth : List ℕ) → split_on 46 text ≡ first ∷ second ∷ third ∷ split_on 46 fourth
     → read_dotted text ≡ address_of (number_up_to 255 first) (number_up_to 255 second) (number_up_to 255 third) (number_up_to 255 fourth)
-dotted_parts text first second third fourth e =
-    elim (parts_cases is_digit 46 fourth refl) [
+read_dotted-parts text first second third fourth e =
+    elim (split_on-cases is_digit 46 fourth refl) [
       | inl one ↦ rw (e, one) (four_octets_read (number_up_to 255 first) (number_up_to 255 second) (number_up_to 255 third) (number_up_to 255 fourth))
       | inr (p, q, ps, more, other) ↦
           let five : (suc (suc (suc (suc (suc (length ps))))) == 4) ≡ false = ne_eqb _ _ (λ same. omega arith) in
-          rw (e, more, five) (no_fourth (number_up_to 255 first) (number_up_to 255 second) (number_up_to 255 third) (number_up_to 255 fourth) (number_none 255 fourth other))
+          rw (e, more, five) (no_fourth (number_up_to 255 first) (number_up_to 255 second) (number_up_to 255 third) (number_up_to 255 fourth) (number_up_to-none 255 fourth other))
     ]
 
 no_length : (address len : Option ℕ) → len ≡ None → let none : Option Prefix = None in none ≡ (address >>= λ a. len >>= λ l. Some (prefix_of a l))
@@ -168,28 +168,28 @@ no_length None len e = refl
 no_length (Some a) len e = rw e refl
 
 -- a prefix by its parts, of which the last is what stands behind the first slash
-pub prefix_parts : (text address len : List ℕ) → parts 47 text ≡ address ∷ parts 47 len
+pub read_prefix-parts : (text address len : List ℕ) → split_on 47 text ≡ address ∷ split_on 47 len
     → read_prefix text ≡ (read_dotted address >>= λ a. number_up_to 32 len >>= λ l. Some (prefix_of a l))
-prefix_parts text address len e =
-    elim (parts_cases is_digit 47 len refl) [
+read_prefix-parts text address len e =
+    elim (split_on-cases is_digit 47 len refl) [
       | inl one ↦ rw (e, one) refl
-      | inr (p, q, ps, more, other) ↦ rw (e, more) (no_length (read_dotted address) (number_up_to 32 len) (number_none 32 len other))
+      | inr (p, q, ps, more, other) ↦ rw (e, more) (no_length (read_dotted address) (number_up_to 32 len) (number_up_to-none 32 len other))
     ]
 
 -- the same by what was read of the parts
-pub dotted_read : (text first second third fourth two three : List ℕ) (a b c d : Option ℕ)
-    → parts 46 text ≡ first ∷ parts 46 two → parts 46 two ≡ second ∷ parts 46 three → parts 46 three ≡ third ∷ parts 46 fourth
+pub read_dotted-by : (text first second third fourth two three : List ℕ) (a b c d : Option ℕ)
+    → split_on 46 text ≡ first ∷ split_on 46 two → split_on 46 two ≡ second ∷ split_on 46 three → split_on 46 three ≡ third ∷ split_on 46 fourth
     → a ≡ number_up_to 255 first → b ≡ number_up_to 255 second → c ≡ number_up_to 255 third → d ≡ number_up_to 255 fourth → address_of a b c d ≡ read_dotted text
-dotted_read text first second third fourth two three a b c d e f g is_a is_b is_c is_d =
+read_dotted-by text first second third fourth two three a b c d e f g is_a is_b is_c is_d =
     rw (is_a, is_b, is_c, is_d)
-    (sym (dotted_parts text first second third fourth (e ∙ ap (λ p. first ∷ p) (f ∙ ap (λ p. second ∷ p) g))))
+    (sym (read_dotted-parts text first second third fourth (e ∙ ap (λ p. first ∷ p) (f ∙ ap (λ p. second ∷ p) g))))
 
-pub prefix_read : (text address len : List ℕ) (a l : Option ℕ) → parts 47 text ≡ address ∷ parts 47 len → a ≡ read_dotted address → l ≡ number_up_to 32 len
+pub read_prefix-by : (text address len : List ℕ) (a l : Option ℕ) → split_on 47 text ≡ address ∷ split_on 47 len → a ≡ read_dotted address → l ≡ number_up_to 32 len
     → (a >>= λ a. l >>= λ l. Some (prefix_of a l)) ≡ read_prefix text
-prefix_read text address len a l e is_a is_l = rw (is_a, is_l) (sym (prefix_parts text address len e))
+read_prefix-by text address len a l e is_a is_l = rw (is_a, is_l) (sym (read_prefix-parts text address len e))
 
-pub number_fits : (limit n : ℕ) (text : List ℕ) → Some n ≡ number_up_to limit text → n ≤ limit
-number_fits limit n text e =
+pub number_up_to-le : (limit n : ℕ) (text : List ℕ) → Some n ≡ number_up_to limit text → n ≤ limit
+number_up_to-le limit n text e =
     elim (cases_Bool (is_decimal text && nat_le (digits_value text) limit)) [
       | inl fits ↦
           let same : Some n ≡ Some (digits_value text) = rw fits at e in
@@ -203,7 +203,7 @@ prefix_some None a l some value fits = let wrong : false ≡ true = some.1 fits 
 prefix_some (Some p) a l some value fits = ap Some value
 
 -- a prefix of an address and a length that were read
-pub prefix_made : (text address len : List ℕ) (a l : ℕ) (made : Option Prefix) → parts 47 text ≡ address ∷ parts 47 len → Some a ≡ read_dotted address → Some l ≡ number_up_to 32 len
+pub read_prefix-made : (text address len : List ℕ) (a l : ℕ) (made : Option Prefix) → split_on 47 text ≡ address ∷ split_on 47 len → Some a ≡ read_dotted address → Some l ≡ number_up_to 32 len
     → IsSome made ↔ (l ≤ 32) → IfSome made (λ p. p ≡ prefix_of a l) → made ≡ read_prefix text
-prefix_made text address len a l made e is_a is_l some value =
-    prefix_some made a l some value (number_fits 32 l len is_l) ∙ prefix_read text address len (Some a) (Some l) e is_a is_l
+read_prefix-made text address len a l made e is_a is_l some value =
+    prefix_some made a l some value (number_up_to-le 32 l len is_l) ∙ read_prefix-by text address len (Some a) (Some l) e is_a is_l

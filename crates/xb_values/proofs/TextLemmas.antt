@@ -9,22 +9,22 @@ octets_length : (octets : List ℕ) → length (flat_map hex_octet octets) ≡ 2
 octets_length [] = refl
 octets_length (b ∷ octets) = omega (arith, octets_length octets)
 
-pub hex_by_octets : (octets : List ℕ) → 0 < length octets → (length (hex_text octets) ≡ 2 * length octets) × (hex_text octets ≡ flat_map hex_octet octets)
-hex_by_octets [] some = absurd (omega arith)
-hex_by_octets (b ∷ octets) some = (octets_length (b ∷ octets), refl)
+pub hex_text_some : (octets : List ℕ) → 0 < length octets → (length (hex_text octets) ≡ 2 * length octets) × (hex_text octets ≡ flat_map hex_octet octets)
+hex_text_some [] some = absurd (omega arith)
+hex_text_some (b ∷ octets) some = (octets_length (b ∷ octets), refl)
 
-pub hex_short : (octets : List ℕ) → length (hex_text octets) ≤ 2 * length octets + 1
-hex_short [] = omega arith
-hex_short (b ∷ octets) = omega (arith, octets_length (b ∷ octets))
+pub hex_text_length : (octets : List ℕ) → length (hex_text octets) ≤ 2 * length octets + 1
+hex_text_length [] = omega arith
+hex_text_length (b ∷ octets) = omega (arith, octets_length (b ∷ octets))
 
-pub decimal_short : (n : ℕ) → n < 2 ^ 64 → length (decimal n) ≤ 20
-decimal_short n word = length-decimal-le 20 n (lit< tt) (omega arith) word
+pub decimal_length : (n : ℕ) → n < 2 ^ 64 → length (decimal n) ≤ 20
+decimal_length n word = length-decimal-le 20 n (lit< tt) (omega arith) word
 
 octet_short : (n : ℕ) → n < 256 → length (decimal n) ≤ 3
 octet_short n small = length-decimal-le 3 n (lit< tt) (omega arith) (omega arith)
 
-pub prefix_short : (p : Prefix) → IsPrefix p → length (prefix_text p) ≤ 18
-prefix_short p is =
+pub prefix_text_length : (p : Prefix) → IsPrefix p → length (prefix_text p) ≤ 18
+prefix_text_length p is =
     let a = octet_short (p.addr / 256 ^ 3 % 256) (omega arith) in
     let b = octet_short (p.addr / 256 ^ 2 % 256) (omega arith) in
     let c = octet_short (p.addr / 256 ^ 1 % 256) (omega arith) in

@@ -1,4 +1,4 @@
--- Parts of a text, each borrowed.
+-- Parts of a text, each borrowed (for the loops of `push_all`).
 use Rattle.std.specs.Borrow.{Bor}
 use Rattle.std.specs.Prelude.{ℕ, List, flat_map}
 

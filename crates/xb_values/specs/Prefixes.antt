@@ -5,14 +5,16 @@ use Rattle.std.specs.Ordering.{nat_cmp, ordering_then}
 use Rattle.xb_words.specs.Octets.{four_at, four_octets}
 use Rattle.xb_words.specs.Cut.{cut}
 
+-- an address and how many of its bits count
 pub record Prefix : Type 0 where
   pub addr : ℕ
   pub len : ℕ
 
--- an address without the bits behind the first len of its 32
+-- an address without the bits after the first len of its 32
 abbrev pub cleared : ℕ → ℕ → ℕ
 cleared addr len = addr / 2 ^ (32 - len) * 2 ^ (32 - len)
 
+-- the prefix of an address and a length
 abbrev pub prefix_of : ℕ → ℕ → Prefix
 prefix_of addr len = record { addr = cleared addr len; len = len }
 
@@ -26,16 +28,16 @@ pub record IsPrefix (p : Prefix) : Type 0 where
 abbrev pub prefix_cmp : Prefix → Prefix → Ordering
 prefix_cmp a b = ordering_then (nat_cmp a.addr b.addr) (nat_cmp a.len b.len)
 
--- the fewest octets that hold so many bits
+-- the fewest octets that hold a number of bits
 abbrev pub octets_for : ℕ → ℕ
 octets_for bits = (bits + 7) / 8
 
--- how many octets the prefix at the front has; none where its length is over 32 or octets are missing
+-- how many octets the prefix at the front has; None if its length is over 32 or octets are missing
 abbrev pub prefix_size : List ℕ → Option ℕ
 prefix_size [] = None
 prefix_size (len ∷ rest) = if nat_le len 32 && nat_le (octets_for len) (length rest) then Some (1 + octets_for len) else None
 
--- the prefix that a length and its octets write; octets that are not written count as 0
+-- the prefix of a length and its octets; octets that are not there count as 0
 abbrev pub prefix_at : List ℕ → Prefix
 prefix_at octets = prefix_of (four_at octets 1) (slice_index octets 0)
 

@@ -25,7 +25,7 @@ abbrev pub hex_text : List ℕ → List ℕ
 hex_text [] = codes "-"
 hex_text (b ∷ octets) = flat_map hex_octet (b ∷ octets)
 
--- words with one space between each two
+-- words, with one space between neighbours
 abbrev pub spaced : List (List ℕ) → List ℕ
 spaced words = join_with_byte 32 words
 

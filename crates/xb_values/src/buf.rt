@@ -24,6 +24,7 @@ impl Model for Buf {
 }
 
 impl Buf {
+    /// An empty buffer of capacity `cap`, all of whose memory is taken here. The error is want of memory.
     pub fn make(alloc: Global, cap: usize) -> Result<Buf, AllocError>
         ensures { IfOk result (λ b. b ≡ record { octets = []; capacity = cap }) }
     {
@@ -33,7 +34,7 @@ impl Buf {
         })
     }
 
-    /// Appends all of the bytes, or none where they do not fit.
+    /// Appends all of `bytes`, or none if they do not fit. Whether they fit is returned.
     pub fn push(&mut self, bytes: &[u8]) -> bool
         ensures { Appends result self.old self.new bytes.now }
     {
@@ -43,7 +44,7 @@ impl Buf {
         self.octets.extend_from_slice(bytes).is_ok()
     }
 
-    /// Appends all of the bytes, for which there is room.
+    /// Appends all of `bytes`, for which there is room.
     pub fn append(&mut self, bytes: &[u8])
         requires { length self.old.octets + length bytes.now ≤ self.old.capacity }
         ensures { self.new ≡ record self.old { octets = self.old.octets ++ bytes.now } }
@@ -51,7 +52,7 @@ impl Buf {
         let _ = self.push(bytes);
     }
 
-    /// Replaces the content by these bytes, for which there is room.
+    /// Replaces the content by `bytes`, for which there is room.
     pub fn replace(&mut self, bytes: &[u8])
         requires { length bytes.now ≤ self.old.capacity }
         ensures { self.new ≡ record self.old { octets = bytes.now } }
@@ -60,12 +61,14 @@ impl Buf {
         self.append(bytes);
     }
 
+    /// Removes all octets. The capacity stays.
     pub fn clear(&mut self)
         ensures { self.new ≡ record self.old { octets = [] } }
     {
         self.octets.clear();
     }
 
+    /// The octets, in the order in which they were appended.
     pub fn as_slice(&self) -> &[u8]
         ensures value { result.now ≡ self.now.octets }
         ensures bound { length result.now ≤ self.now.capacity }
@@ -73,6 +76,7 @@ impl Buf {
         self.octets.as_slice()
     }
 
+    /// How many octets there are.
     pub fn len(&self) -> usize
         ensures value { result ≡ length self.now.octets }
         ensures bound { result ≤ self.now.capacity }
@@ -88,7 +92,7 @@ impl Buf {
         self.capacity - self.octets.len()
     }
 
-    /// Changes one octet.
+    /// Replaces the octet at index `at`, from 0.
     pub fn set_at(&mut self, at: usize, byte: u8)
         requires { at < length self.old.octets }
         ensures { self.new ≡ record self.old { octets = slice_set self.old.octets at byte } }

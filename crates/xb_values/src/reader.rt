@@ -1,29 +1,31 @@
+//! Texts that are read: numbers in decimal, addresses and prefixes.
 ghost use Rattle.std.specs.Prelude.{◌≡◌, ◌-◌, ◌*◌, ◌+◌, ◌^◌, ◌∷◌, [], Some, None, position, nat_le, ◌==◌, ◌&&◌, if◌then◌else◌, IfNone, IfSome, length};
 ghost use Rattle.std.specs.List.{list_all};
-ghost use Rattle.xb_values.specs.Readers.{parts, is_digit, digits_value, number_up_to, read_decimal, read_dotted, read_prefix};
+ghost use Rattle.xb_values.specs.Readers.{split_on, is_digit, digits_value, number_up_to, read_decimal, read_dotted, read_prefix};
 
 use crate::Prefix;
 
-// The place of the first octet that is the separator.
-fn place_of(text: &[u8], separator: u8) -> Option<usize>
+// The index of the first octet that is the separator.
+fn index_of(text: &[u8], separator: u8) -> Option<usize>
     ensures { result ≡ position (λ c. c == separator) text.now }
 {
     text.iter().position(|c| *c == separator)
 }
 
-/// What stands before the first separator, and what stands behind it.
+/// The text before the first separator and the text after it. None if the text has no separator.
 pub fn split_once(text: &[u8], separator: u8) -> Option<(&[u8], &[u8])>
-    ensures whole { IfNone result (parts separator text.now ≡ text.now ∷ []) }
-    ensures split { IfSome result (λ p. parts separator text.now ≡ p.0.now ∷ parts separator p.1.now) }
+    ensures whole { IfNone result (split_on separator text.now ≡ text.now ∷ []) }
+    ensures split { IfSome result (λ p. split_on separator text.now ≡ p.0.now ∷ split_on separator p.1.now) }
     ensures size { IfSome result (λ p. length p.0.now + 1 + length p.1.now ≡ length text.now) }
 {
-    let at = place_of(text, separator)?;
+    let at = index_of(text, separator)?;
     Some((&text[..at], &text[at + 1..]))
 }
 
-// A number with one more digit behind it.
+// A number with one more digit at its end.
 fn with_digit(value: u64, c: u8) -> Option<u64>
-    ensures { result ≡ (if is_digit c && nat_le (value * 10 + (c - 48)) (2 ^ 64 - 1) then Some (value * 10 + (c - 48)) else None) }
+    ensures { let more = value * 10 + (c - 48)
+        in result ≡ (if is_digit c && nat_le more (2 ^ 64 - 1) then Some more else None) }
 {
     match c {
         b'0'..=b'9' => value.checked_mul(10)?.checked_add(u64::from(c - b'0')),
@@ -31,9 +33,10 @@ fn with_digit(value: u64, c: u8) -> Option<u64>
     }
 }
 
-// What digits say.
+// The number of digits, each of which is one, if it has at most 64 bits.
 fn value_of(text: &[u8]) -> Option<u64>
-    ensures { result ≡ (if list_all is_digit text.now && nat_le (digits_value text.now) (2 ^ 64 - 1) then Some (digits_value text.now) else None) }
+    ensures { let number = digits_value text.now
+        in result ≡ (if list_all is_digit text.now && nat_le number (2 ^ 64 - 1) then Some number else None) }
 {
     let mut value = 0u64;
     for c in text {
@@ -42,7 +45,8 @@ fn value_of(text: &[u8]) -> Option<u64>
     Some(value)
 }
 
-/// A number of at most 64 bits: decimal digits without a sign or a leading zero.
+/// The number of a text: decimal digits without a sign or a leading zero. None if the text is not of this form, or if the
+/// number has more than 64 bits.
 pub fn read_decimal(text: &[u8]) -> Option<u64>
     ensures { result ≡ read_decimal text.now }
 {
@@ -52,6 +56,7 @@ pub fn read_decimal(text: &[u8]) -> Option<u64>
     }
 }
 
+// The number of a text, if it is at most `limit`.
 fn read_up_to(limit: u8, text: &[u8]) -> Option<u8>
     ensures { result ≡ number_up_to limit text.now }
 {
@@ -63,7 +68,8 @@ fn read_up_to(limit: u8, text: &[u8]) -> Option<u8>
     }
 }
 
-/// An address: four numbers up to 255, joined by dots.
+/// The address of a text: four numbers up to 255, joined by dots, of which the first is the high octet of the result. None
+/// if the text is not of this form.
 pub fn read_dotted(text: &[u8]) -> Option<u32>
     ensures { result ≡ read_dotted text.now }
 {
@@ -78,7 +84,8 @@ pub fn read_dotted(text: &[u8]) -> Option<u32>
     ]))
 }
 
-/// An address, a slash and a length up to 32. Host bits are cleared.
+/// The prefix of a text: an address, a slash and a length up to 32. Host bits are cleared. None if the text is not of this
+/// form.
 pub fn read_prefix(text: &[u8]) -> Option<Prefix>
     ensures { result ≡ read_prefix text.now }
 {

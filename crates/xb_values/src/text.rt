@@ -1,4 +1,5 @@
-ghost use Rattle.std.specs.Prelude.{◌≡◌, ◌+◌, ◌*◌, ◌<◌, ◌≤◌, ◌++◌, length, flat_map, decimal};
+//! Texts that are written: numbers in decimal, addresses, prefixes, and octets as hexadecimal digits.
+ghost use Rattle.std.specs.Prelude.{◌≡◌, ◌+◌, ◌*◌, ◌<◌, ◌≤◌, ◌++◌, ◌∷◌, [], length, flat_map, decimal};
 ghost use Rattle.xb_values.specs.Buffers.{Appends};
 ghost use Rattle.xb_values.specs.Parts.{joined};
 ghost use Rattle.xb_values.specs.Texts.{dotted, prefix_text, hex_digit, hex_octet, hex_text};
@@ -6,8 +7,8 @@ ghost use Rattle.xb_values.specs.Texts.{dotted, prefix_text, hex_digit, hex_octe
 use crate::{Buf, Prefix};
 use itoa::Buffer;
 
-/// Appends a number in decimal, or nothing where it does not fit.
-#[tactic(auto, using(crate::proofs::TextLemmas::decimal_short))]
+/// Appends a number in decimal, or nothing if it does not fit. Whether it fits is returned.
+#[tactic(auto, using(crate::proofs::TextLemmas::decimal_length))]
 pub fn push_decimal(out: &mut Buf, value: u64) -> bool
     ensures appends { Appends result out.old out.new (decimal value) }
     ensures short { length (decimal value) ≤ 20 }
@@ -17,7 +18,7 @@ pub fn push_decimal(out: &mut Buf, value: u64) -> bool
 }
 
 /// Appends a number in decimal, for which there is room.
-#[tactic(auto, using(crate::proofs::TextLemmas::decimal_short))]
+#[tactic(auto, using(crate::proofs::TextLemmas::decimal_length))]
 pub fn append_decimal(out: &mut Buf, value: u64)
     requires { length out.old.octets + 20 ≤ out.old.capacity }
     ensures appended { out.new ≡ record out.old { octets = out.old.octets ++ decimal value } }
@@ -26,7 +27,7 @@ pub fn append_decimal(out: &mut Buf, value: u64)
     let _ = push_decimal(out, value);
 }
 
-// Appends all the parts in order, or nothing where they do not fit together.
+// Appends all the parts in order, or nothing if they do not fit together.
 fn push_all(out: &mut Buf, parts: &[&[u8]]) -> bool
     ensures { Appends result out.old out.new (joined parts.now) }
 {
@@ -38,12 +39,13 @@ fn push_all(out: &mut Buf, parts: &[&[u8]]) -> bool
         room -= part.len();
     }
     for piece in parts {
-        let _ = out.push(piece);
+        out.append(piece);
     }
     true
 }
 
-/// Appends an address as four numbers joined by dots, or nothing where it does not fit.
+/// Appends an address as four numbers joined by dots, that of its high octet first, or nothing if it does not fit. Whether
+/// it fits is returned.
 pub fn push_dotted(out: &mut Buf, addr: u32) -> bool
     ensures { Appends result out.old out.new (dotted addr) }
 {
@@ -57,8 +59,8 @@ pub fn push_dotted(out: &mut Buf, addr: u32) -> bool
     push_all(out, &[first, b".", second, b".", third, b".", fourth])
 }
 
-/// Appends a prefix as its address, a slash and its length, or nothing where it does not fit.
-#[tactic(auto, using(crate::proofs::TextLemmas::prefix_short))]
+/// Appends a prefix as its address, a slash and its length, or nothing if it does not fit. Whether it fits is returned.
+#[tactic(auto, using(crate::proofs::TextLemmas::prefix_text_length))]
 pub fn push_prefix(out: &mut Buf, prefix: Prefix) -> bool
     ensures appends { Appends result out.old out.new (prefix_text prefix) }
     ensures short { length (prefix_text prefix) ≤ 18 }
@@ -77,7 +79,7 @@ pub fn push_prefix(out: &mut Buf, prefix: Prefix) -> bool
 }
 
 /// Appends a prefix as its address, a slash and its length, for which there is room.
-#[tactic(auto, using(crate::proofs::TextLemmas::prefix_short))]
+#[tactic(auto, using(crate::proofs::TextLemmas::prefix_text_length))]
 pub fn append_prefix(out: &mut Buf, prefix: Prefix)
     requires { length out.old.octets + 18 ≤ out.old.capacity }
     ensures appended { out.new ≡ record out.old { octets = out.old.octets ++ prefix_text prefix } }
@@ -86,6 +88,7 @@ pub fn append_prefix(out: &mut Buf, prefix: Prefix)
     let _ = push_prefix(out, prefix);
 }
 
+// The digit of a number below 16.
 fn hex_digit_of(d: u8) -> u8
     requires { d < 16 }
     ensures { result ≡ hex_digit d }
@@ -93,18 +96,49 @@ fn hex_digit_of(d: u8) -> u8
     if d < 10 { b'0' + d } else { b'a' + (d - 10) }
 }
 
-// Appends two digits an octet, for which there is room.
-fn push_digits(out: &mut Buf, bytes: &[u8])
+// Appends the digits of four octets at once, for which there is room.
+fn push_four(out: &mut Buf, a: u8, b: u8, c: u8, d: u8)
+    requires { length out.old.octets + 8 ≤ out.old.capacity }
+    ensures { out.new ≡ record out.old { octets = out.old.octets ++ flat_map hex_octet (a ∷ b ∷ c ∷ d ∷ []) } }
+{
+    out.append(&[
+        hex_digit_of(a / 16),
+        hex_digit_of(a % 16),
+        hex_digit_of(b / 16),
+        hex_digit_of(b % 16),
+        hex_digit_of(c / 16),
+        hex_digit_of(c % 16),
+        hex_digit_of(d / 16),
+        hex_digit_of(d % 16),
+    ]);
+}
+
+// Appends two digits for each octet, for which there is room, one octet at a time.
+fn push_few(out: &mut Buf, bytes: &[u8])
     requires { length out.old.octets + 2 * length bytes.now ≤ out.old.capacity }
     ensures { out.new ≡ record out.old { octets = out.old.octets ++ flat_map hex_octet bytes.now } }
 {
     for byte in bytes {
-        let _ = out.push(&[hex_digit_of(*byte / 16), hex_digit_of(*byte % 16)]);
+        out.append(&[hex_digit_of(*byte / 16), hex_digit_of(*byte % 16)]);
     }
 }
 
-/// Appends two digits an octet, a dash for no octets, or nothing where it does not fit.
-#[tactic(auto, using(crate::proofs::TextLemmas::hex_by_octets, crate::proofs::TextLemmas::hex_short))]
+// Appends two digits for each octet, for which there is room, four octets at a time, which is several times as fast.
+fn push_digits(out: &mut Buf, bytes: &[u8])
+    requires { length out.old.octets + 2 * length bytes.now ≤ out.old.capacity }
+    ensures { out.new ≡ record out.old { octets = out.old.octets ++ flat_map hex_octet bytes.now } }
+{
+    let mut rest = bytes;
+    'fours: while let [a, b, c, d, others @ ..] = rest {
+        push_four(out, *a, *b, *c, *d);
+        rest = others;
+    }
+    push_few(out, rest);
+}
+
+/// Appends two digits for each octet, or a dash if there are no octets, or nothing if that does not fit. Whether it fits is
+/// returned.
+#[tactic(auto, using(crate::proofs::TextLemmas::hex_text_some, crate::proofs::TextLemmas::hex_text_length))]
 pub fn push_hex(out: &mut Buf, bytes: &[u8]) -> bool
     ensures appends { Appends result out.old out.new (hex_text bytes.now) }
     ensures short { length (hex_text bytes.now) ≤ 2 * length bytes.now + 1 }
@@ -119,7 +153,7 @@ pub fn push_hex(out: &mut Buf, bytes: &[u8]) -> bool
     true
 }
 
-/// Appends two digits an octet, or a dash if there are no octets, for which there is room.
+/// Appends two digits for each octet, or a dash if there are no octets, for which there is room.
 pub fn append_hex(out: &mut Buf, bytes: &[u8])
     requires { length out.old.octets + (2 * length bytes.now + 1) ≤ out.old.capacity }
     ensures appended { out.new ≡ record out.old { octets = out.old.octets ++ hex_text bytes.now } }

@@ -1,3 +1,3 @@
 pub mod Messages
 pub mod Headers
-pub mod Notices
+pub mod Views

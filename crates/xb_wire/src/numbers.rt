@@ -1,6 +1,9 @@
-//! The numbers of the wire, each with its name (RFC 4271, sections 4 and 6).
+//! The numbers of the wire, each with its name (RFC 4271, sections 4 and 6). Other limits are written in terms of these.
 
-/// Octets of a message header: a marker of 16, a length of 2, a type of 1 (section 4.1).
+/// Octets of a message header's marker, all of which are 255 (section 4.1).
+pub const MARKER: usize = 16;
+
+/// Octets of a message header: the marker, a length field of 2, a type of 1 (section 4.1).
 pub const HEADER: usize = 19;
 
 /// The most octets of a message, its header included (section 4.1).
@@ -9,13 +12,21 @@ pub const MAX_MESSAGE: usize = 4096;
 /// The most octets of a message's body: 4,096 - 19.
 pub const MAX_BODY: usize = MAX_MESSAGE - HEADER;
 
-/// The most octets of a NOTIFICATION's data: 4,096 less the header, the code and the subcode.
-pub const MAX_NOTICE_DATA: usize = MAX_MESSAGE - HEADER - 2;
+/// The fewest octets of an OPEN: the header and 10 (section 4.2).
+pub const LEAST_OPEN: usize = HEADER + 10;
 
-/// Octets of an UPDATE without prefixes and attributes: the header and its two length fields (section 4.3).
+/// Octets of an UPDATE without prefixes and attributes, the fewest that one has: the header and its two length fields
+/// (section 4.3).
 pub const EMPTY_UPDATE: usize = HEADER + 4;
 
-/// The most octets of a section of path attributes beside which any prefix fits: 4,096 - 23 - 5.
+/// The fewest octets of a NOTIFICATION: the header, the code and the subcode (section 4.5).
+pub const LEAST_NOTIFICATION: usize = HEADER + 2;
+
+/// The most octets of a NOTIFICATION's data, which the header, the code and the subcode precede: 4,096 - 21.
+pub const MAX_NOTICE_DATA: usize = MAX_MESSAGE - LEAST_NOTIFICATION;
+
+/// The most octets of a section of path attributes in an UPDATE that has room for any one prefix, which takes at most 5
+/// octets: 4,096 - 23 - 5.
 pub const MAX_SECTION: usize = MAX_MESSAGE - EMPTY_UPDATE - 5;
 
 /// The type of a message: OPEN (section 4.1).

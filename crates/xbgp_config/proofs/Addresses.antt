@@ -6,9 +6,9 @@ use Rattle.std.proofs.lemmas.Bool.{cases_Bool, eqb-true}
 use Rattle.xb_words.specs.Octets.{four_at}
 use Rattle.xb_words.specs.Optional.{◌>>=◌}
 use Rattle.xb_values.specs.Prefixes.{Prefix, IsPrefix, prefix_of}
-use Rattle.xb_values.proofs.PrefixLemmas.{prefix_is_one}
-use Rattle.xb_values.proofs.ReaderLemmas.{number_fits}
-use Rattle.xb_values.specs.Readers.{parts, number_up_to, octet_texts, read_dotted, prefix_in, read_prefix}
+use Rattle.xb_values.proofs.PrefixLemmas.{prefix_of_is_prefix}
+use Rattle.xb_values.proofs.ReaderLemmas.{number_up_to-le}
+use Rattle.xb_values.specs.Readers.{split_on, number_up_to, octet_texts, read_dotted, prefix_in, read_prefix}
 use Rattle.xb_fields.proofs.Accepted.{guarded}
 use Rattle.xbgp_config.specs.Configs.{passing}
 
@@ -36,7 +36,7 @@ split_octets : (text : List ℕ) (texts : List (List ℕ)) (ns : List ℕ) → o
 split_octets text texts ns e =
     let a = some_of (number_up_to 255 text) (λ m. octet_texts texts >>= (λ ms. Some (m ∷ ms))) ns e in
     let b = some_of (octet_texts texts) (λ ms. Some (a.0 ∷ ms)) ns a.2 in
-    record { first = a.0; others = b.0; small = number_fits 255 a.0 text (sym a.1); read = b.1; whole = cc b.2 }
+    record { first = a.0; others = b.0; small = number_up_to-le 255 a.0 text (sym a.1); read = b.1; whole = cc b.2 }
 
 texts_small : (texts : List (List ℕ)) (a : ℕ) → length texts ≡ 4 → option_map (λ ns. four_at ns 0) (octet_texts texts) ≡ Some a → a < 2 ^ 32
 texts_small [] a h e = absurd (omega arith)
@@ -56,8 +56,8 @@ texts_small (p ∷ q ∷ r ∷ s ∷ t ∷ texts) a h e = absurd (omega arith)
 
 pub address_small : (s : List ℕ) (a : ℕ) → read_dotted s ≡ Some a → a < 2 ^ 32
 address_small s a e =
-    elim (cases_Bool (length (parts 46 s) == 4)) [
-      | inl four ↦ texts_small (parts 46 s) a (eqb-true _ _ four) (rw four at e)
+    elim (cases_Bool (length (split_on 46 s) == 4)) [
+      | inl four ↦ texts_small (split_on 46 s) a (eqb-true _ _ four) (rw four at e)
       | inr other ↦ let none : None ≡ Some a = rw other at e in absurd (cc none)
     ]
 
@@ -68,12 +68,12 @@ prefix_small (a ∷ l ∷ []) p e =
     let x = some_of (read_dotted a) (λ m. number_up_to 32 l >>= (λ n. Some (prefix_of m n))) p e in
     let y = some_of (number_up_to 32 l) (λ n. Some (prefix_of x.0 n)) p x.2 in
     let same : prefix_of x.0 y.0 ≡ p = cc y.2 in
-    rw (← same) (prefix_is_one x.0 y.0 (address_small a x.0 x.1) (number_fits 32 y.0 l (sym y.1)))
+    rw (← same) (prefix_of_is_prefix x.0 y.0 (address_small a x.0 x.1) (number_up_to-le 32 y.0 l (sym y.1)))
 prefix_small (a ∷ l ∷ t ∷ texts) p e = absurd (cc e)
 
 -- a text of a prefix says one
 pub prefix_good : (s : List ℕ) (p : Prefix) → read_prefix s ≡ Some p → IsPrefix p
-prefix_good s p e = prefix_small (parts 47 s) p e
+prefix_good s p e = prefix_small (split_on 47 s) p e
 
 -- what passes a test
 pub passing_ok : (test : ℕ → Bool) (o : Option ℕ) (a : ℕ) → passing test o ≡ Some a → test a ≡ true

@@ -5,7 +5,7 @@ use Rattle.std.specs.Result.{result_map_both}
 use Rattle.toml.specs.Data.{Data, Members}
 use Rattle.xb_domain.specs.declared.bad.BadKind.TheVariants.{Key, Range, Double}
 use Rattle.xb_domain.specs.declared.bad.Part.TheVariants.{Top, Speaker, Network, Peer, Cost}
-use Rattle.xb_domain.specs.declared.actor.Side.{Side}
+use Rattle.xb_domain.specs.declared.side.Side.{Side}
 use Rattle.xb_values.specs.Prefixes.{Prefix, IsPrefix}
 use Rattle.xb_values.specs.Readers.{read_dotted, read_prefix}
 use Rattle.xb_fields.specs.declared.fault.Bad.{Bad}

@@ -14,7 +14,7 @@ use Rattle.toml.specs.View.{view}
 use Rattle.toml.specs.declared.value.Value.{Value}
 use Rattle.bpf_insn.specs.declared.fault.LoadFault.{LoadFault}
 use Rattle.bpf_insn.specs.Loading.{load_fault}
-use Rattle.xb_domain.specs.Actors.{helper_allowed}
+use Rattle.xb_domain.specs.Points.{helper_allowed}
 use Rattle.xb_domain.specs.declared.bad.BadKind.TheVariants.{Key, Room, Double}
 use Rattle.xb_domain.specs.declared.bad.Part.TheVariants.{Top, Map, Program}
 use Rattle.xb_fields.specs.declared.fault.Place.{Place}
@@ -26,7 +26,7 @@ use Rattle.xbgp_maps.specs.Mappings.{is_from_1_to}
 use Rattle.xbgp_manifest.specs.declared.entries.MapEntry.{MapEntry}
 use Rattle.xbgp_manifest.specs.declared.entries.ProgramEntry.{ProgramEntry}
 use Rattle.xbgp_manifest.specs.Manifests.{Manifest, IsManifest, IsProgram, is_name, is_fuel, shapes_of, room_of, name_text, point_text, code_text, map_shape, map_keys, map_fields, map_entry, load_bad, program_keys, program_fields, loaded_program, program_entry, top_keys, manifest_of, fault_of, manifest}
-use Rattle.xb_words.proofs.Ends.{all_push}
+use Rattle.xb_words.proofs.ListLemmas.{AllByRecursion-push}
 
 name_at : (at : Place) (ms : Members) (n : List ℕ) → required at (codes "name") (text at name_text) ms ≡ Ok n → is_name n ≡ true
 name_at at ms n e =
@@ -74,7 +74,7 @@ map_step i earlier d x kept e =
     let same : b.0 ≡ x = same_ok b.0 x m.1 in
     let none : list_any (λ p. bytes_eq x.name p.name) earlier ≡ false = rw same at (untrue _ m.0) in
     let ranges = map_kept i d x (b.1 ∙ ap Ok same) in (
-      rw (map-append (λ p. p.shape) earlier (x ∷ [])) (all_push ShapeKept (shapes_of earlier) x.shape kept.0 ranges.1),
+      rw (map-append (λ p. p.shape) earlier (x ∷ [])) (AllByRecursion-push ShapeKept (shapes_of earlier) x.shape kept.0 ranges.1),
       All-push (λ p. IsTrue (is_name p.name)) earlier x kept.1 ranges.0,
       all_pairs_push (λ p q. p.name ≢ q.name) earlier x kept.2 (differs (λ p. p.name) earlier x none),
     )

@@ -9,9 +9,9 @@ use Rattle.bpf_insn.specs.declared.fault.LoadFault.{LoadFault}
 use Rattle.bpf_insn.specs.declared.fault.LoadKind.{LoadKind}
 use Rattle.bpf_insn.specs.declared.fault.LoadKind.TheVariants as loads
 use Rattle.bpf_insn.specs.Loading.{load_fault}
-use Rattle.xb_domain.specs.Actors.{helper_allowed}
-use Rattle.xb_domain.specs.declared.actor.Point.{Point}
-use Rattle.xb_domain.specs.declared.actor.Point.TheVariants.{Receive, Inbound, Decision, Outbound, Encode}
+use Rattle.xb_domain.specs.Points.{helper_allowed}
+use Rattle.xb_domain.specs.declared.point.Point.{Point}
+use Rattle.xb_domain.specs.declared.point.Point.TheVariants.{Receive, Inbound, Decision, Outbound, Encode}
 use Rattle.xb_domain.specs.declared.bad.BadKind.{BadKind}
 use Rattle.xb_domain.specs.declared.bad.BadKind.TheVariants as kinds
 use Rattle.xb_domain.specs.declared.bad.Part.TheVariants.{Top, Map, Program}

@@ -2,7 +2,7 @@
 ghost use Rattle.std.specs.Prelude.{◌≡◌, ℕ, codes};
 ghost use Rattle.toml.specs.View.{table_view};
 ghost use Rattle.bpf_insn.specs.Helpers.{allows};
-ghost use Rattle.xb_domain.specs.Actors.{helper_allowed};
+ghost use Rattle.xb_domain.specs.Points.{helper_allowed};
 ghost use Rattle.xb_fields.specs.Fields.{required, text};
 ghost use Rattle.xbgp_manifest.specs.Manifests.{point_text};
 

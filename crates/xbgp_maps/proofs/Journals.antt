@@ -16,7 +16,7 @@ use Rattle.xbgp_maps.specs.declared.shape.Remove.TheVariants as removes
 use Rattle.xb_words.specs.Table.{without}
 use Rattle.xbgp_maps.specs.Mappings.{Mapping, IsMapping, Journalled, key_cmp, mapping_at, value_in, put_in, taken_from, put_answer, remove_answer, after_put, after_remove, budget, is_full, written, empty_maps, is_from_1_to, shapes_of, AreWithinLimits}
 use Rattle.xbgp_maps.specs.Journals.{Write, restored, taken_back, all_taken_back, CanTakeBack, CanTakeAllBack, IsNarrow, IsUndoable, seen, when_done, was_put, was_removed}
-use Rattle.xb_words.proofs.Entries.{found, undo_new, undo_over, undo_without, value_with, length_without}
+use Rattle.xb_words.proofs.TableLemmas.{value_at-some, without-with_value, with_value-with_value, with_value-without, value_at-with_value, length-without}
 
 get_again : (maps : List Mapping) (n : ℕ) (m after : Mapping) → slice_get maps n ≡ Some m → slice_get (slice_set maps n after) n ≡ Some after
 get_again [] n m after there = absurd (cc there)
@@ -29,11 +29,11 @@ set_again (x ∷ xs) zero m after there = let same : x ≡ m = cc there in ap (�
 set_again (x ∷ xs) (suc n) m after there = ap (λ (ys : List Mapping). x ∷ ys) (set_again xs n m after there)
 
 undo_put : (m : Mapping) (k v : List ℕ) (old : Option (List ℕ)) → IsMapping m → value_in m k ≡ old → restored (put_in m k v) k old ≡ m
-undo_put m k v None kept at = ap (λ (es : List (List ℕ × List ℕ)). record m { entries = es }) (undo_new key_cmp nat_list_cmp_total m.entries k v at)
-undo_put m k v (Some w) kept at = ap (λ (es : List (List ℕ × List ℕ)). record m { entries = es }) (undo_over key_cmp nat_list_cmp_total m.entries k v w kept.rising at)
+undo_put m k v None kept at = ap (λ (es : List (List ℕ × List ℕ)). record m { entries = es }) (without-with_value key_cmp nat_list_cmp_total m.entries k v at)
+undo_put m k v (Some w) kept at = ap (λ (es : List (List ℕ × List ℕ)). record m { entries = es }) (with_value-with_value key_cmp nat_list_cmp_total m.entries k v w kept.rising at)
 
 undo_remove : (m : Mapping) (k w : List ℕ) → IsMapping m → value_in m k ≡ Some w → restored (taken_from m k) k (Some w) ≡ m
-undo_remove m k w kept at = ap (λ (es : List (List ℕ × List ℕ)). record m { entries = es }) (undo_without key_cmp nat_list_cmp_total exact_bytes m.entries k w kept.rising at)
+undo_remove m k w kept at = ap (λ (es : List (List ℕ × List ℕ)). record m { entries = es }) (with_value-without key_cmp nat_list_cmp_total exact_bytes m.entries k w kept.rising at)
 
 one_back : (maps : List Mapping) (n : ℕ) (m after : Mapping) (k : List ℕ) (old : Option (List ℕ)) → slice_get maps n ≡ Some m → restored after k old ≡ m → taken_back (record { map = n; key = k; old = old }) (slice_set maps n after) ≡ maps
 one_back maps n m after k old there is =
@@ -91,7 +91,7 @@ last_then_rest ws w maps last = sym (all_back_push (take (length ws - 1) ws) w m
 pub narrow_old : {B : Type 0} (now : B → List ℕ) (m : Mapping) (k : List ℕ) (o : Option B) → IsMapping m → IsNarrow m → option_map now o ≡ value_in m k → IfSome o (λ b. length (now b) ≤ 256)
 narrow_old now m k None kept narrow is = tt
 narrow_old now m k (Some b) kept narrow is =
-    let entry = found key_cmp (λ e. (length e.0 ≡ m.shape.key) × (length e.1 ≡ m.shape.value)) m.entries k (now b) kept.widths (sym is) in
+    let entry = value_at-some key_cmp (λ e. (length e.0 ≡ m.shape.key) × (length e.1 ≡ m.shape.value)) m.entries k (now b) kept.widths (sym is) in
     let bound : m.shape.value ≤ 256 = narrow.value in
     omega (arith, entry.2.1, bound)
 
@@ -139,13 +139,13 @@ can_put maps n m k v there kept width = record {
     by : (old : Option (List ℕ)) → value_in m k ≡ old → MatchOption old (Unit {0}) (λ value. (length value ≡ m.shape.value) × (value_in (put_in m k v) k ≡ None → length (put_in m k v).entries < m.shape.entries))
     by None is = tt
     by (Some w) is =
-        let entry = found key_cmp (λ e. (length e.0 ≡ m.shape.key) × (length e.1 ≡ m.shape.value)) m.entries k w kept.widths is in
-        (entry.2.1, λ none. absurd (cc (none, value_with key_cmp nat_list_cmp_total m.entries k v)))
+        let entry = value_at-some key_cmp (λ e. (length e.0 ≡ m.shape.key) × (length e.1 ≡ m.shape.value)) m.entries k w kept.widths is in
+        (entry.2.1, λ none. absurd (cc (none, value_at-with_value key_cmp nat_list_cmp_total m.entries k v)))
 
 can_remove : (maps : List Mapping) (n : ℕ) (m : Mapping) (k w : List ℕ) → slice_get maps n ≡ Some m → IsMapping m → length k ≡ m.shape.key → value_in m k ≡ Some w → CanTakeBack (record { map = n; key = k; old = value_in m k }) (slice_set maps n (taken_from m k))
 can_remove maps n m k w there kept width is =
-    let entry = found key_cmp (λ e. (length e.0 ≡ m.shape.key) × (length e.1 ≡ m.shape.value)) m.entries k w kept.widths is in
-    let fewer : suc (length (without key_cmp m.entries k)) ≡ length m.entries = length_without key_cmp m.entries k w is in
+    let entry = value_at-some key_cmp (λ e. (length e.0 ≡ m.shape.key) × (length e.1 ≡ m.shape.value)) m.entries k w kept.widths is in
+    let fewer : suc (length (without key_cmp m.entries k)) ≡ length m.entries = length-without key_cmp m.entries k w is in
     let room : length m.entries ≤ m.shape.entries = kept.room in
     record {
       exists = simp length-set (slice_get_within maps n m there);

@@ -11,8 +11,8 @@ use Rattle.xbgp_maps.specs.declared.shape.MapShape.{MapShape}
 use Rattle.xbgp_maps.specs.Mappings.{Mapping, IsMapping, key_cmp, value_in, put_in, taken_from}
 use Rattle.xbgp_maps.specs.Tables.{IsTable, IsBlank}
 use Rattle.xbgp_maps.specs.Trees.{HaveWidth, IsAlone}
-use Rattle.xb_words.proofs.Ends.{all_left, all_right, all_push}
-use Rattle.xb_words.proofs.Entries.{all_with, all_without, all_over, found, length_new, length_without, length_there, without_absent, rising_with, rising_without}
+use Rattle.xb_words.proofs.ListLemmas.{AllByRecursion-left, AllByRecursion-right, AllByRecursion-push}
+use Rattle.xb_words.proofs.TableLemmas.{AllByRecursion-with_value, AllByRecursion-without, AllByRecursion-with_value-over, value_at-some, length-with_value-new, length-without, length-with_value-over, without-absent, IsRising-with_value, IsRising-without}
 
 abbrev Entries : Type 0
 Entries = List (List ℕ × List ℕ)
@@ -22,10 +22,10 @@ HasWidths shape e = (length e.0 ≡ shape.key) × (length e.1 ≡ shape.value)
 
 -- what holds of every spare node, and of the last of them
 all_front : {A B : Type 0} (P : B → Type 0) (f : A → B) (xs : List A) (y : A) → AllByRecursion P (map f (xs ++ y ∷ [])) → AllByRecursion P (map f xs)
-all_front P f xs y all = all_left P (map f xs) (f y ∷ []) (rw (map-append f xs (y ∷ [])) at all)
+all_front P f xs y all = AllByRecursion-left P (map f xs) (f y ∷ []) (rw (map-append f xs (y ∷ [])) at all)
 
 pub all_last : {A B : Type 0} (P : B → Type 0) (f : A → B) (xs : List A) (y : A) → AllByRecursion P (map f (xs ++ y ∷ [])) → P (f y)
-all_last P f xs y all = (all_right P (map f xs) (f y ∷ []) (rw (map-append f xs (y ∷ [])) at all)).0
+all_last P f xs y all = (AllByRecursion-right P (map f xs) (f y ∷ []) (rw (map-append f xs (y ∷ [])) at all)).0
 
 widths_values : (shape : MapShape) (es : Entries) → AllByRecursion (HasWidths shape) es → AllByRecursion (λ (e : List ℕ × List ℕ). length e.1 ≡ shape.value) es
 widths_values shape [] a = tt
@@ -42,12 +42,12 @@ pub table_over : (m : Mapping) (spare : List Node) (room : ℕ) (k v : List ℕ)
 table_over m spare room k v table there width =
     let at = the_value (value_in m k) there in
     let rising = table.kept.rising in
-    let same : length (with_value key_cmp m.entries k v) ≡ length m.entries = length_there key_cmp nat_list_cmp_total m.entries k v at.0 rising at.1 in
+    let same : length (with_value key_cmp m.entries k v) ≡ length m.entries = length-with_value-over key_cmp nat_list_cmp_total m.entries k v at.0 rising at.1 in
     record {
       kept = record {
-        rising = rising_with key_cmp nat_list_cmp_total m.entries k v rising;
+        rising = IsRising-with_value key_cmp nat_list_cmp_total m.entries k v rising;
         room = rw same table.kept.room;
-        widths = all_over key_cmp nat_list_cmp_total (HasWidths m.shape) m.entries k v at.0 rising at.1 (λ e p. (p.0, width)) table.kept.widths;
+        widths = AllByRecursion-with_value-over key_cmp nat_list_cmp_total (HasWidths m.shape) m.entries k v at.0 rising at.1 (λ e p. (p.0, width)) table.kept.widths;
       };
       count = rw same table.count;
       capacity = table.capacity;
@@ -56,15 +56,15 @@ table_over m spare room k v table there width =
 
 pub table_new : {B : Type 0} (f : B → Node) (m : Mapping) (all boxes : List B) (b : B) (room wider : ℕ) (k v : List ℕ) → IsTable m (map f all) room → all ≡ boxes ++ b ∷ [] → wider ≡ room → value_in m k ≡ None → length k ≡ m.shape.key → length v ≡ m.shape.value → IsTable (put_in m k v) (map f boxes) wider
 table_new f m all boxes b room wider k v table cut same absent key value =
-    let more : length (with_value key_cmp m.entries k v) ≡ suc (length m.entries) = length_new key_cmp m.entries k v absent in
+    let more : length (with_value key_cmp m.entries k v) ≡ suc (length m.entries) = length-with_value-new key_cmp m.entries k v absent in
     let fewer : length (map f (boxes ++ b ∷ [])) ≡ suc (length (map f boxes)) = simp (length-map, length-append) (omega arith) in
     let count : length m.entries + length (map f (boxes ++ b ∷ [])) ≡ m.shape.entries = rw (← cut) table.count in
     let capacity : m.shape.entries ≤ room = table.capacity in
     record {
       kept = record {
-        rising = rising_with key_cmp nat_list_cmp_total m.entries k v table.kept.rising;
+        rising = IsRising-with_value key_cmp nat_list_cmp_total m.entries k v table.kept.rising;
         room = omega (arith, more, fewer, count);
-        widths = all_with key_cmp (HasWidths m.shape) m.entries k v (key, value) (λ e q p. (p.0, value)) table.kept.widths;
+        widths = AllByRecursion-with_value key_cmp (HasWidths m.shape) m.entries k v (key, value) (λ e q p. (p.0, value)) table.kept.widths;
       };
       count = omega (arith, more, fewer, count);
       capacity = omega (arith, capacity, same);
@@ -74,36 +74,36 @@ table_new f m all boxes b room wider k v table cut same absent key value =
 -- a node that is taken out finds room among the spare ones
 pub spare_below : (m : Mapping) (spare : List Node) (room : ℕ) (k w : List ℕ) → IsTable m spare room → value_in m k ≡ Some w → length spare < room
 spare_below m spare room k w table there =
-    let fewer : suc (length (without key_cmp m.entries k)) ≡ length m.entries = length_without key_cmp m.entries k w there in
+    let fewer : suc (length (without key_cmp m.entries k)) ≡ length m.entries = length-without key_cmp m.entries k w there in
     let count : length m.entries + length spare ≡ m.shape.entries = table.count in
     let capacity : m.shape.entries ≤ room = table.capacity in
     omega (arith, fewer, count, capacity)
 
 pub table_gone : {B : Type 0} (f : B → Node) (m : Mapping) (all boxes : List B) (b : B) (room more : ℕ) (k : List ℕ) → IsTable m (map f boxes) room → all ≡ boxes ++ b ∷ [] → value_in m k ≡ Some (f b).value.items → (f b).key.items ≡ k → IsAlone (f b) → room ≤ more → IsTable (taken_from m k) (map f all) more
 table_gone f m all boxes b room more k table joined there key alone wider =
-    let fewer : suc (length (without key_cmp m.entries k)) ≡ length m.entries = length_without key_cmp m.entries k (f b).value.items there in
+    let fewer : suc (length (without key_cmp m.entries k)) ≡ length m.entries = length-without key_cmp m.entries k (f b).value.items there in
     let another : length (map f (boxes ++ b ∷ [])) ≡ suc (length (map f boxes)) = simp (length-map, length-append) (omega arith) in
     let all_of : length (map f all) ≡ length (map f (boxes ++ b ∷ [])) = ap (λ bs. length (map f bs)) joined in
     let count : length m.entries + length (map f boxes) ≡ m.shape.entries = table.count in
-    let entry = found key_cmp (HasWidths m.shape) m.entries k (f b).value.items table.kept.widths there in
+    let entry = value_at-some key_cmp (HasWidths m.shape) m.entries k (f b).value.items table.kept.widths there in
     let same : k ≡ entry.0 = exact_bytes k entry.0 entry.1 in
     let width : length k ≡ m.shape.key = ap length same ∙ entry.2.0 in
     let capacity : m.shape.entries ≤ room = table.capacity in
     record {
       kept = record {
-        rising = rising_without key_cmp nat_list_cmp_total m.entries k table.kept.rising;
+        rising = IsRising-without key_cmp nat_list_cmp_total m.entries k table.kept.rising;
         room = omega (arith, fewer, count);
-        widths = all_without key_cmp (HasWidths m.shape) m.entries k table.kept.widths;
+        widths = AllByRecursion-without key_cmp (HasWidths m.shape) m.entries k table.kept.widths;
       };
       count = omega (arith, fewer, another, all_of, count);
       capacity = omega (arith, capacity, wider);
-      blank = subst (λ bs. AllByRecursion (IsBlank m.shape) (map f bs)) (sym joined) (rw (map-append f boxes (b ∷ [])) (all_push (IsBlank m.shape) (map f boxes) (f b) table.blank (record { key = ap length key ∙ width; value = entry.2.1; alone = alone })));
+      blank = subst (λ bs. AllByRecursion (IsBlank m.shape) (map f bs)) (sym joined) (rw (map-append f boxes (b ∷ [])) (AllByRecursion-push (IsBlank m.shape) (map f boxes) (f b) table.blank (record { key = ap length key ∙ width; value = entry.2.1; alone = alone })));
     }
 
 -- where nothing is at the key, nothing changes
 pub table_absent : (m : Mapping) (spare : List Node) (room : ℕ) (k : List ℕ) → IsTable m spare room → value_in m k ≡ None → IsTable (taken_from m k) spare room
 table_absent m spare room k table absent =
-    subst (λ (es : Entries). IsTable (record { shape = m.shape; entries = es }) spare room) (sym (without_absent key_cmp m.entries k absent)) table
+    subst (λ (es : Entries). IsTable (record { shape = m.shape; entries = es }) spare room) (sym (without-absent key_cmp m.entries k absent)) table
 
 -- a table without entries
 pub table_empty : (shape : MapShape) (spare : List Node) (room : ℕ) → length spare ≡ shape.entries → shape.entries ≤ room → AllByRecursion (IsBlank shape) spare → IsTable (record { shape = shape; entries = [] }) spare room

@@ -1,7 +1,7 @@
 // A search tree of entries by rising key: look-ups, writes and removals, each by one way down.
 ghost use Rattle.std.specs.Prelude.{◌≡◌, ◌+◌, ◌≤◌, ◌∷◌, ◌++◌, length, max, None, Some, IsSome};
 ghost use Rattle.std.specs.Option.{option_map};
-ghost use Rattle.xb_words.specs.Table.{entry_after, first as first_entry, value_at, with_value, without, IsRising};
+ghost use Rattle.xb_words.specs.Table.{entry_after, first_of as first_entry, value_at, with_value, without, IsRising};
 ghost use Rattle.xbgp_maps.specs.Mappings.{key_cmp};
 ghost use Rattle.xbgp_maps.specs.Trees.{entries_of, entries_below, entry_of, height_of, HaveWidth, IsAlone, IsBalanced, IsBalancedBelow, IsLow, IsNext, IsTaken};
 

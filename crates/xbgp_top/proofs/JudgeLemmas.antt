@@ -3,11 +3,11 @@ use Rattle.std.proofs.Common.{◌≡◌, ℕ, ◌+◌, List, [], ◌∷◌, ◌+
 use Rattle.std.specs.Prelude.{◌==◌}
 use Rattle.std.specs.List.{concat}
 use Rattle.std.proofs.Math.Dec.{eqb-suc-zero}
-use Rattle.xb_words.specs.Cut.{walk, walk_from, placed}
+use Rattle.xb_words.specs.Cut.{walk, walk_from, with_offsets}
 use Rattle.xb_wire.specs.Messages.{split}
 use Rattle.bgp_update.specs.Walks.{Found, found, messages_from}
 use Rattle.xb_io.specs.Pages.{Gathered}
-use Rattle.xb_io.proofs.PageLemmas.{begun, joined_on}
+use Rattle.xb_io.proofs.PageLemmas.{gathered_begin, gathered_then}
 use Rattle.xbgp_top.specs.declared.status.Status.{Status}
 use Rattle.xbgp_top.specs.Outputs.{Stops}
 use Rattle.xbgp_top.proofs.OutputLemmas.{stops_behind}
@@ -43,7 +43,7 @@ lines_of [] = []
 lines_of (Err at ∷ ms) = []
 lines_of (Ok m ∷ ms) = judge_line m ++ lines_of ms
 
-lines_of_walk : (at : ℕ) (items : List (List ℕ)) (rest : List ℕ) → lines_of (walk found (λ i. i) at items rest) ≡ flat_map judge_line (map (λ m. found m.0 m.1) (placed at items))
+lines_of_walk : (at : ℕ) (items : List (List ℕ)) (rest : List ℕ) → lines_of (walk found (λ i. i) at items rest) ≡ flat_map judge_line (map (λ m. found m.0 m.1) (with_offsets at items))
 lines_of_walk at [] [] = refl
 lines_of_walk at [] (b ∷ rest) = refl
 lines_of_walk at (m ∷ items) rest = ap (λ l. judge_line (found at m) ++ l) (lines_of_walk (at + length m) items rest)
@@ -55,12 +55,12 @@ all_lines s = lines_of_walk 0 (split s).items (split s).rest
 -- at first all lines are still to come
 pub all_to_come : (before : Option (List ℕ)) (page s : List ℕ) (ms : List (Result Found ℕ)) → ms ≡ messages_from 0 s → Gathered before before (page ++ flat_map judge_line (messages_of s)) page (lines_of ms)
 all_to_come before page s ms first =
-    subst (λ rest. Gathered before before (page ++ flat_map judge_line (messages_of s)) page rest) (sym (all_lines s) ∙ ap lines_of (sym first)) (begun before page (flat_map judge_line (messages_of s)))
+    subst (λ rest. Gathered before before (page ++ flat_map judge_line (messages_of s)) page rest) (sym (all_lines s) ∙ ap lines_of (sym first)) (gathered_begin before page (flat_map judge_line (messages_of s)))
 
 pub verdict_done : (before now later : Option (List ℕ)) (whole page next : List ℕ) (ms rest : List (Result Found ℕ)) (m : Found)
     → ms ≡ Ok m ∷ rest → Gathered before now whole page (lines_of ms) → Gathered now later (page ++ judge_line m) next [] → Gathered before later whole next (lines_of rest)
 verdict_done before now later whole page next ms rest m is g h =
-    joined_on before now later whole page next (judge_line m) (lines_of rest) (subst (λ l. Gathered before now whole page l) (ap lines_of is) g) h
+    gathered_then before now later whole page next (judge_line m) (lines_of rest) (subst (λ l. Gathered before now whole page l) (ap lines_of is) g) h
 
 pub verdict_stops : (before now later : Option (List ℕ)) (whole page : List ℕ) (ms rest : List (Result Found ℕ)) (m : Found) (f g h : ℕ) (status : Status)
     → ms ≡ Ok m ∷ rest → Gathered before now whole page (lines_of ms) → g ≡ f → Stops now later (page ++ judge_line m) g h status → Stops before later whole f h status

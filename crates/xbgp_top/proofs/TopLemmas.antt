@@ -1,10 +1,10 @@
 -- How the parts of a run make its answer.
 use Rattle.std.proofs.Common.{◌≡◌, ◌≢◌, ◌⊎◌, ℕ, ◌<◌, ◌≤◌, Bool, true, false, if◌then◌else◌, nat_lt, List, [], length, Option, Some, None, Ok, Err, flat_map, IfSome, IsNone, IsSomeAnd, MatchOption, refl, sym, ◌∙◌, ap, subst, inl, inr, arith}
 use Rattle.std.proofs.lemmas.Bool.{lt-ltb, le-ltb}
-use Rattle.xb_io.specs.Causes.{Files, file_named, Rose, IsMissing, TookFront}
+use Rattle.xb_io.specs.Causes.{Files, file_named, FaultsRose, IsMissing, TookFront}
 use Rattle.xb_values.specs.Texts.{line}
 use Rattle.bpf_insn.specs.Loading.{load_fault}
-use Rattle.xb_io.proofs.PageLemmas.{and_then-nil}
+use Rattle.xb_io.proofs.PageLemmas.{with_text-nil}
 use Rattle.bgp_update.specs.Heard.{heard}
 use Rattle.std.specs.Option.{option_map}
 use Rattle.xbgp_top.specs.declared.input.Unread.{Unread}
@@ -40,7 +40,7 @@ explains_written told a reads_before reads_now writes_before writes_now before n
     }
   where
     exact : (o : Option Answer) → IfSome o (λ t. t ≡ a)
-        → IfSome o (λ t. ¬ Rose reads_before reads_now → ¬ Rose writes_before writes_now → status ≢ OutOfMemory → IsAnswered t before now status)
+        → IfSome o (λ t. ¬ FaultsRose reads_before reads_now → ¬ FaultsRose writes_before writes_now → status ≢ OutOfMemory → IsAnswered t before now status)
     exact None e = tt
     exact (Some t) e = λ no_read no_write memory.
         let written : status ≢ WriteFault = λ fault. no_write (w.fault fault) in
@@ -55,11 +55,11 @@ explains_written told a reads_before reads_now writes_before writes_now before n
 pub explains_memory : (told : Option Answer) (reads writes : ℕ) (before : Option (List ℕ)) → Explains told reads reads writes writes before before OutOfMemory
 explains_memory told reads writes before =
     record {
-      exact = elim told as (λ o. IfSome o (λ answer. ¬ Rose reads reads → ¬ Rose writes writes → OutOfMemory ≢ OutOfMemory → IsAnswered answer before before OutOfMemory)) [
+      exact = elim told as (λ o. IfSome o (λ answer. ¬ FaultsRose reads reads → ¬ FaultsRose writes writes → OutOfMemory ≢ OutOfMemory → IsAnswered answer before before OutOfMemory)) [
         | None ↦ tt
         | Some a ↦ λ no_read no_write memory. absurd (memory refl)
       ];
-      front = elim told as (λ o. IfSome o (λ answer. TookFront before before answer.text)) [ None ↦ tt | Some a ↦ (0, and_then-nil before) ];
+      front = elim told as (λ o. IfSome o (λ answer. TookFront before before answer.text)) [ None ↦ tt | Some a ↦ (0, with_text-nil before) ];
       read_fault = λ e. absurd (cc e);
       write_fault = λ e. absurd (cc e);
       quiet_reads = λ x y. refl;
@@ -97,13 +97,13 @@ module _ (file : File) (name : List ℕ) (go : Files → List ℕ → Answer) wh
 
   -- an input that could not be read
   explains_fault : (held : Option Files) (reads_before reads_now writes : ℕ) (before : Option (List ℕ))
-      → reads_before ≤ reads_now → Rose reads_before reads_now ⊎ IsMissing held name
+      → reads_before ≤ reads_now → FaultsRose reads_before reads_now ⊎ IsMissing held name
       → Explains (option_map (λ files. with_input file files name (go files)) held) reads_before reads_now writes writes before before ReadFault
   explains_fault None reads_before reads_now writes before later cause =
       record {
         exact = tt;
         front = tt;
-        read_fault = λ e. elim cause as (λ _. Rose reads_before reads_now ⊎ IsSomeAnd (option_map (λ files. with_input file files name (go files)) None) (λ a. a.status ≡ ReadFault)) [ inl rose ↦ inl rose | inr missing ↦ absurd missing ];
+        read_fault = λ e. elim cause as (λ _. FaultsRose reads_before reads_now ⊎ IsSomeAnd (option_map (λ files. with_input file files name (go files)) None) (λ a. a.status ≡ ReadFault)) [ inl rose ↦ inl rose | inr missing ↦ absurd missing ];
         write_fault = λ e. absurd (cc e);
         quiet_reads = λ x y. absurd (x refl);
         quiet_writes = λ x y. refl;
@@ -117,9 +117,9 @@ module _ (file : File) (name : List ℕ) (go : Files → List ℕ → Answer) wh
               | inl rose ↦ absurd (no_read rose)
               | inr missing ↦ subst (λ (a : Answer). IsAnswered a before before ReadFault) (sym (missing_is_told files missing)) (refl, λ x. absurd (x refl))
             ];
-        front = (0, and_then-nil before);
+        front = (0, with_text-nil before);
         read_fault = λ e.
-            elim cause as (λ _. Rose reads_before reads_now ⊎ ((with_input file files name (go files)).status ≡ ReadFault)) [
+            elim cause as (λ _. FaultsRose reads_before reads_now ⊎ ((with_input file files name (go files)).status ≡ ReadFault)) [
               | inl rose ↦ inl rose
               | inr missing ↦ inr (ap (λ (a : Answer). a.status) (missing_is_told files missing))
             ];

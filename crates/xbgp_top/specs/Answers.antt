@@ -7,7 +7,7 @@ use Rattle.xb_wire.specs.Messages.{split}
 use Rattle.bgp_update.specs.Heard.{heard}
 use Rattle.bgp_update.specs.Walks.{Found, found}
 use Rattle.bgp_check.specs.Judgement.{judge}
-use Rattle.xb_words.specs.Cut.{placed}
+use Rattle.xb_words.specs.Cut.{with_offsets}
 use Rattle.std.specs.List.{concat}
 use Rattle.xbgp_top.specs.declared.status.File.{File}
 use Rattle.xbgp_top.specs.declared.status.File.TheVariants.{Input}
@@ -92,7 +92,7 @@ heard_answer octets = elim (heard octets) [ Ok table ↦ answered Done (table_li
 
 -- the messages of a stream, each with its place
 abbrev pub messages_of : List ℕ → List Found
-messages_of s = map (λ m. found m.0 m.1) (placed 0 (split s).items)
+messages_of s = map (λ m. found m.0 m.1) (with_offsets 0 (split s).items)
 
 -- the place of what is left of a stream behind its messages, if anything is
 abbrev pub place_of_rest : List ℕ → Option ℕ

@@ -1,6 +1,6 @@
 -- What was read of an input.
 use Rattle.std.specs.Prelude.{◌≡◌, ◌⊎◌, ℕ, ◌<◌, ◌≤◌, List, [], length, take, Option, Some, None, MatchOption}
-use Rattle.xb_io.specs.Causes.{Files, file_named, Rose, IsMissing}
+use Rattle.xb_io.specs.Causes.{Files, file_named, FaultsRose, IsMissing}
 use Rattle.xbgp_top.specs.Answers.{input_limit}
 use Rattle.xbgp_top.specs.declared.input.Unread.{Unread}
 use Rattle.xbgp_top.specs.declared.input.Unread.TheVariants.{Long, Fault, OutOfMemory}
@@ -21,5 +21,5 @@ IsLong held name = MatchOption held (Unit {0}) (λ files. MatchOption (file_name
 -- an input that was not read has its cause; without a fault the count stays
 abbrev pub IsUnread : Option Files → List ℕ → ℕ → ℕ → Unread → Type 0
 IsUnread held name before now Long = IsLong held name × (now ≡ before)
-IsUnread held name before now Fault = (before ≤ now) × (Rose before now ⊎ IsMissing held name)
+IsUnread held name before now Fault = (before ≤ now) × (FaultsRose before now ⊎ IsMissing held name)
 IsUnread held name before now OutOfMemory = now ≡ before

@@ -1,6 +1,6 @@
 -- How a text goes to a sink, and what the status says of it.
 use Rattle.std.specs.Prelude.{◌≡◌, ◌≢◌, ◌⊎◌, ℕ, ◌≤◌, List, [], ◌++◌, Option, Result, Ok, Err}
-use Rattle.xb_io.specs.Causes.{Rose, TookFront, and_then}
+use Rattle.xb_io.specs.Causes.{FaultsRose, TookFront, with_text}
 use Rattle.xb_io.specs.Pages.{Gathered}
 use Rattle.xbgp_top.specs.Answers.{Answer, long_answer}
 use Rattle.xbgp_top.specs.declared.input.Unread.{Unread}
@@ -15,9 +15,9 @@ pub record Writes (answer : Answer) (before now : Option (List ℕ)) (faults_bef
   -- the answer's status, a fault of the sink, or want of memory
   pub only : (status ≡ answer.status) ⊎ ((status ≡ WriteFault) ⊎ (status ≡ OutOfMemory))
   -- the whole text was taken where the status is the answer's
-  pub whole : status ≢ WriteFault → status ≢ OutOfMemory → now ≡ and_then before answer.text
+  pub whole : status ≢ WriteFault → status ≢ OutOfMemory → now ≡ with_text before answer.text
   pub front : TookFront before now answer.text
-  pub fault : status ≡ WriteFault → Rose faults_before faults_now
+  pub fault : status ≡ WriteFault → FaultsRose faults_before faults_now
   pub quiet : status ≢ WriteFault → status ≢ OutOfMemory → faults_now ≡ faults_before
   pub later : faults_before ≤ faults_now
 
@@ -25,7 +25,7 @@ pub record Writes (answer : Answer) (before now : Option (List ℕ)) (faults_bef
 pub record Stops (before now : Option (List ℕ)) (whole : List ℕ) (faults_before faults_now : ℕ) (status : Status) : Type 0 where
   pub only : (status ≡ WriteFault) ⊎ (status ≡ OutOfMemory)
   pub front : TookFront before now whole
-  pub fault : status ≡ WriteFault → Rose faults_before faults_now
+  pub fault : status ≡ WriteFault → FaultsRose faults_before faults_now
   pub later : faults_before ≤ faults_now
 
 -- a text was gathered behind what stood on a page, or that ended early

@@ -1,5 +1,5 @@
 ghost use Rattle.std.specs.Prelude.{◌≡◌, ◌≢◌, ◌≤◌, ◌⊎◌, Some, map, string_bytes};
-ghost use Rattle.xb_io.specs.Causes.{Files, Rose, TookFront};
+ghost use Rattle.xb_io.specs.Causes.{Files, FaultsRose, TookFront};
 ghost use Rattle.xbgp_top.specs.Answers.{answer, job_answer};
 ghost use Rattle.xbgp_top.specs.Commands.{command_of, on_file};
 ghost use Rattle.xbgp_top.specs.Outputs.{Writes};
@@ -67,7 +67,7 @@ pub fn run<S: Shelf, K: Sink>(
     sink: &mut K,
 ) -> Status
     // Where the shelf tells and no count of faults rose: the answer's status with its whole text, or want of memory.
-    ensures exact { (files : Files) → S.held shelf.old ≡ Some files → ¬ Rose (S.faults shelf.old) (S.faults shelf.new) → ¬ Rose (K.faults sink.old) (K.faults sink.new)
+    ensures exact { (files : Files) → S.held shelf.old ≡ Some files → ¬ FaultsRose (S.faults shelf.old) (S.faults shelf.new) → ¬ FaultsRose (K.faults sink.old) (K.faults sink.new)
         → result ≢ Status.OutOfMemory → IsAnswered (answer (map string_bytes words.now) files) (K.took sink.old) (K.took sink.new) result }
 
     // In every case a front of the answer's text was taken.
@@ -77,8 +77,8 @@ pub fn run<S: Shelf, K: Sink>(
     ensures usage { IsUsage (command_of (map string_bytes words.now)) result }
 
     // No fault is answered without its cause, and no other answer where a count rose.
-    ensures read_cause { result ≡ Status.ReadFault → Rose (S.faults shelf.old) (S.faults shelf.new) ⊎ SaysMissing (S.held shelf.old) (map string_bytes words.now) }
-    ensures write_cause { result ≡ Status.WriteFault → Rose (K.faults sink.old) (K.faults sink.new) }
+    ensures read_cause { result ≡ Status.ReadFault → FaultsRose (S.faults shelf.old) (S.faults shelf.new) ⊎ SaysMissing (S.held shelf.old) (map string_bytes words.now) }
+    ensures write_cause { result ≡ Status.WriteFault → FaultsRose (K.faults sink.old) (K.faults sink.new) }
     ensures quiet_shelf { result ≢ Status.ReadFault → result ≢ Status.OutOfMemory → S.faults shelf.new ≡ S.faults shelf.old }
     ensures quiet_sink { result ≢ Status.WriteFault → result ≢ Status.OutOfMemory → K.faults sink.new ≡ K.faults sink.old }
     ensures later_shelf { S.faults shelf.old ≤ S.faults shelf.new }

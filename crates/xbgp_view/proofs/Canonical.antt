@@ -8,7 +8,7 @@ use Rattle.std.proofs.lemmas.Nat.{and_assoc, and_or_self, and_or_apart, or_disjo
 use Rattle.std.specs.Int.Bits.{and_zero_r}
 use Rattle.xb_words.specs.Octets.{two_at, two_octets}
 use Rattle.xb_words.specs.Cut.{cut, IsStable, IsItem}
-use Rattle.xb_words.proofs.Cutting.{cut-joined}
+use Rattle.xb_words.proofs.CutLemmas.{cut-concat}
 use Rattle.bgp_attr.specs.Attributes.{attribute_size, attr_flags, attr_code, attr_value, has_long_length, header_size, whole_size}
 use Rattle.bgp_attr.specs.Routes.{Attribute, Route, canon, canonical, kept_flags, IsEntry, IsRoute}
 use Rattle.bgp_attr.proofs.AttributesLemmas.{IsSize-attribute_size}
@@ -135,7 +135,7 @@ canon_joined (e ∷ r) = ap (λ s. canonical e ++ s) (canon_joined r)
 pub canon_cut : (r : Route) → AllByRecursion IsSpelled r → cut attribute_size (canon r) ≡ record { items = map canonical r; rest = [] }
 canon_cut r all =
     ap (cut attribute_size) (canon_joined r ∙ sym (append-nil (concat (map canonical r))))
-    ∙ cut-joined attribute_size IsSize-attribute_size attribute_is_stable (map canonical r) [] (all_items r all) refl
+    ∙ cut-concat attribute_size attribute_is_size attribute_is_stable (map canonical r) [] (all_items r all) refl
 
 -- a whole route has spelled entries
 pub route_spelled : (r : Route) → IsRoute r → AllByRecursion IsSpelled r

@@ -6,7 +6,7 @@ use Rattle.std.specs.List.{AllByRecursion}
 use Rattle.std.proofs.lemmas.Bool.{cases_Bool, ltb-true, ltb-false, le-leb, lt-leb}
 use Rattle.std.proofs.lemmas.List.{length-append, drop_at, take_at, append-nil}
 use Rattle.xb_words.specs.Cut.{Pieces, walk, walk_from}
-use Rattle.xb_words.specs.Table.{first}
+use Rattle.xb_words.specs.Table.{first_of}
 use Rattle.bgp_attr.specs.Attributes.{attr_code}
 use Rattle.bgp_attr.specs.Routes.{Route, route_of, canon, canonical}
 use Rattle.bgp_attr.specs.Walks.{FoundAttr, found_attr, overrun, attributes_from}
@@ -18,8 +18,8 @@ use Rattle.xbgp_view.specs.Views.{code_from}
 use Rattle.xbgp_view.proofs.Places.{split_is, front, at_is}
 
 -- the entry with which some entries begin, at a place
-abbrev pub head_found : ℕ → Route → Option FoundAttr
-head_found at r = option_map (λ e. found_attr at (canonical e)) (first r)
+abbrev pub head_found : ℕ → Route → Option Found
+head_found at r = option_map (λ e. found at (canonical e)) (first_of r)
 
 found_in : (from at : ℕ) (r : Route) → AllByRecursion IsSpelled r
     → found_from from (walk found_attr overrun at (map canonical r) []) ≡ head_found (at + length (canon (lower from r))) (upper from r)

@@ -1,6 +1,7 @@
 use Rattle.std.proofs.Common.{◌≡◌, ◌∙◌, sym, true, codes, Some, None}
 use Rattle.std.specs.Str.{bytes_eq}
-use Rattle.xb_domain.specs.Actors.{event_of, octets}
+use Rattle.xb_domain.specs.Views.{event_view}
+use Rattle.xb_domain.specs.Events.{octets}
 use Rattle.replay_log.proofs.LineLemmas.{line_said, line_lone, line_in, line_empty, line_blank}
 use Rattle.replay_log.proofs.line.read_line.Goals as goal
 use Rattle.replay_log.proofs.line.read_line.Goals.{then-is_empty-via-then-is_empty, then-is_empty-via-else-is_empty+then-line-eq35}
@@ -20,7 +21,7 @@ returns-in_err-lone_event-in-None-clause-line c =
 
 pub returns-in_ok-lone_event-in-None-clause-line : goal.returns-in_ok-lone_event-in-None-clause-line
 returns-in_ok-lone_event-in-None-clause-line c =
-    line_said c.args.peers c.args.now c.args.line.now _ (Some (event_of c.in_ok-lone_event-in-None.field-0)) c.if-is_empty.ensures c.if-line-eq35.false
+    line_said c.args.peers c.args.now c.args.line.now _ (Some (event_view c.in_ok-lone_event-in-None.field-0)) c.if-is_empty.ensures c.if-line-eq35.false
     c.in-None.ensures.whole (c.in_ok-lone_event-in-None.ensures ∙ sym (line_lone c.args.peers c.args.now c.args.line.now))
 
 pub returns-in_err-octets_behind-in-Some-clause-line : goal.returns-in_err-octets_behind-in-Some-clause-line
@@ -45,5 +46,5 @@ returns-in_err-event_behind-in-Some-2-clause-line c =
 
 pub returns-in_ok-event_behind-in-Some-2-clause-line : goal.returns-in_ok-event_behind-in-Some-2-clause-line
 returns-in_ok-event_behind-in-Some-2-clause-line c =
-    line_said c.args.peers c.args.now c.args.line.now _ (Some (event_of c.in_ok-event_behind-in-Some-2.field-0)) c.if-is_empty.ensures c.if-line-eq35.false
+    line_said c.args.peers c.args.now c.args.line.now _ (Some (event_view c.in_ok-event_behind-in-Some-2.field-0)) c.if-is_empty.ensures c.if-line-eq35.false
     c.in-Some.ensures.split c.in_ok-event_behind-in-Some-2.ensures

@@ -1,6 +1,6 @@
 use Rattle.std.proofs.Common.{◌≡◌, ◌+◌, ◌<◌, length, Option, Some, ◌∙◌, sym, ap, arith, length-append, refl}
 use Rattle.xb_values.specs.Buffers.{Buffer}
-use Rattle.xb_io.specs.Causes.{Files, told_text}
+use Rattle.xb_io.specs.Causes.{Files, told_file}
 use Rattle.replay_log.proofs.ReadingLemmas.{left_at, left_first, left_none, left_last, left_long, left_line_end, left_unpushed, left_pushed}
 use Rattle.replay_log.proofs.reader.read_line.Goals as goal
 
@@ -20,35 +20,35 @@ octets-init g c =
 pub returns-in-Ok-None-clause-told : goal.returns-in-Ok-None-clause-told
 returns-in-Ok-None-clause-told g c =
     λ log is.
-    let told = ap (λ (h : Option Files). told_text h c.args.name.now) c.octets.invariant.held ∙ is in
+    let told = ap (λ (h : Option Files). told_file h c.args.name.now) c.octets.invariant.held ∙ is in
     sym (left_none c.octets.place c.len.result c.octets.line.octets log (sym c.in-Ok-None.field-0-is ∙ c.in-Ok-None.ensures.octet log told) c.octets.invariant.place c.len.ensures.value c.if-len-eq0.true)
     ∙ c.octets.invariant.left log is
 
 pub returns-in-Ok-None-2-clause-told : goal.returns-in-Ok-None-2-clause-told
 returns-in-Ok-None-2-clause-told g c =
     λ log is.
-    let told = ap (λ (h : Option Files). told_text h c.args.name.now) c.octets.invariant.held ∙ is in
+    let told = ap (λ (h : Option Files). told_file h c.args.name.now) c.octets.invariant.held ∙ is in
     sym (left_last c.octets.place c.len.result c.octets.line.octets log (sym c.in-Ok-None.field-0-is ∙ c.in-Ok-None.ensures.octet log told) c.octets.invariant.place c.len.ensures.value c.if-len-eq0.false)
     ∙ c.octets.invariant.left log is
 
 pub returns-in-Ok-Some-clause-told : goal.returns-in-Ok-Some-clause-told
 returns-in-Ok-Some-clause-told g c =
     λ log is.
-    let told = ap (λ (h : Option Files). told_text h c.args.name.now) c.octets.invariant.held ∙ is in
+    let told = ap (λ (h : Option Files). told_file h c.args.name.now) c.octets.invariant.held ∙ is in
     sym (left_long c.octets.place c.in-Ok-Some.field-0-0 c.octets.line.octets log (sym c.in-Ok-Some.field-0-is ∙ c.in-Ok-Some.ensures.octet log told) c.if-place-ge-LOG_LIMIT.true)
     ∙ c.octets.invariant.left log is
 
 pub returns-in-Ok-Some-eq10-clause-told : goal.returns-in-Ok-Some-eq10-clause-told
 returns-in-Ok-Some-eq10-clause-told g c =
     λ log is.
-    let told = ap (λ (h : Option Files). told_text h c.args.name.now) c.octets.invariant.held ∙ is in
+    let told = ap (λ (h : Option Files). told_file h c.args.name.now) c.octets.invariant.held ∙ is in
     sym (left_line_end c.octets.place c.octets.line.octets log (ap Some (sym c.in-Ok-Some-eq10.field-0-0-test) ∙ sym c.in-Ok-Some.field-0-is ∙ c.in-Ok-Some.ensures.octet log told) c.if-place-ge-LOG_LIMIT.false)
     ∙ c.octets.invariant.left log is
 
 pub returns-then-not-push-clause-told : goal.returns-then-not-push-clause-told
 returns-then-not-push-clause-told g c =
     λ log is.
-    let told = ap (λ (h : Option Files). told_text h c.args.name.now) c.octets.invariant.held ∙ is in
+    let told = ap (λ (h : Option Files). told_file h c.args.name.now) c.octets.invariant.held ∙ is in
     sym (left_unpushed c.octets.place c.in-Ok-Some.field-0-0 c.octets.line c.push.new.self log (sym c.in-Ok-Some.field-0-is ∙ c.in-Ok-Some.ensures.octet log told) c.if-place-ge-LOG_LIMIT.false
     c.in-Ok-Some-2.octet-test.1 c.if-not-push.ensures c.octets.invariant.short c.octets.invariant.room)
     ∙ c.octets.invariant.left log is
@@ -63,7 +63,7 @@ octets-preserved g c =
       held = c.in-Ok-Some.ensures.same ∙ c.octets.invariant.held;
       faults = c.in-Ok-Some.ensures.quiet ∙ c.octets.invariant.faults;
       left = λ log is.
-          let told = ap (λ (h : Option Files). told_text h c.args.name.now) c.octets.invariant.held ∙ is in
+          let told = ap (λ (h : Option Files). told_file h c.args.name.now) c.octets.invariant.held ∙ is in
           left_pushed c.octets.place c.in-Ok-Some.field-0-0 c.octets.line c.push.new.self log (sym c.in-Ok-Some.field-0-is ∙ c.in-Ok-Some.ensures.octet log told) c.if-place-ge-LOG_LIMIT.false
           c.in-Ok-Some-2.octet-test.1 grown less
           ∙ c.octets.invariant.left log is;

@@ -1,12 +1,14 @@
 use Rattle.std.proofs.Common.{rules, ◌≡◌}
-use Rattle.std.proofs.lemmas.Result.{on_err_weaker}
-use Rattle.xb_io.specs.Causes.{and_then}
-use Rattle.xb_io.proofs.PageLemmas.{put_and_front}
+use Rattle.xb_io.proofs.PageLemmas.{gathers_after_put, gathers_failed_put}
 use Rattle.xb_io.proofs.page.gather.Goals as goal
 
-pub returns-in-Ok-clause-front : goal.returns-in-Ok-clause-front
-returns-in-Ok-clause-front g c =
-    let took : g.K.Sink.took c.put.new.self ≡ and_then (g.K.Sink.took c.args.sink.now) c.args.page.now.octets = search rules in
-    on_err_weaker c.on_new_page.result
-    (put_and_front (g.K.Sink.took c.args.sink.now) (g.K.Sink.took c.put.new.self) (g.K.Sink.took c.on_new_page.new.sink) c.args.page.now.octets c.args.text.now took)
-    c.on_new_page.ensures.front
+pub returns-in_err-put_text : goal.returns-in_err-put_text
+returns-in_err-put_text g c =
+    let same : c.as_slice.result.now ≡ c.args.page.now.octets = search rules in
+    gathers_failed_put _ _ _ _ c.args.page.now.octets c.as_slice.result.now _ c.args.text.now c.in_err-put_text.field-0.0 c.from_residual.result same
+    c.from_residual.ensures.1 c.in_err-put_text.ensures
+
+pub returns : goal.returns
+returns g c =
+    let same : c.as_slice.result.now ≡ c.args.page.now.octets = search rules in
+    gathers_after_put _ _ _ _ _ c.args.page.now.octets c.as_slice.result.now _ c.args.text.now _ same c.in_ok-put_text.ensures c.on_new_page.ensures

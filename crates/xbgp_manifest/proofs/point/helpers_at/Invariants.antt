@@ -1,7 +1,7 @@
 use Rattle.std.proofs.Common.{◌≡◌, ℕ, ◌&&◌}
 use Rattle.std.specs.Prelude.{nat_lt}
 use Rattle.bpf_insn.specs.Helpers.{allows}
-use Rattle.xb_domain.specs.Actors.{helper_allowed}
+use Rattle.xb_domain.specs.Points.{helper_allowed}
 use Rattle.xbgp_manifest.proofs.point.helpers_at.Given as goal
 
 abbrev pub invariant-loop-number : goal.invariant-loop-number
