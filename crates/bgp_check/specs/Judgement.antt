@@ -32,7 +32,8 @@ attr_notice attribute Path = update_error MALFORMED_AS_PATH []
 -- the check of one attribute alone
 abbrev pub attribute_check : ℕ → List ℕ → Option Notification
 attribute_check w attribute =
-    option_map (attr_notice attribute) (attr_fault w (attr_code attribute) (attr_flags attribute) (attr_value attribute))
+    option_map (attr_notice attribute)
+    (attr_fault w (attr_code attribute) (attr_flags attribute) (attr_value attribute))
 
 -- the fault of the first check that has one
 abbrev pub first_check : List (Option Notification) → Option Notification
@@ -64,8 +65,8 @@ missing codes = find (λ code. not (has_code codes code)) mandatory
 abbrev pub missing_notice : ℕ → Notification
 missing_notice code = update_error MISSING_WELL_KNOWN_ATTRIBUTE (code ∷ [])
 
--- the first fault of a section: of the section as a whole, of its attributes in order, and, if prefixes are announced, of
--- what is missing
+-- the first fault of a section: of the section as a whole, of its attributes in order, and, if prefixes are announced,
+-- of what is missing
 unfoldable pub judge_section : ℕ → List ℕ → Bool → Option Notification
 judge_section w section announces =
     first_check (

@@ -22,7 +22,8 @@ impl Codes {
     }
 
     pub(crate) fn insert(&mut self, code: u8)
-        ensures { (other : ℕ) → other < 256 → has_bit self.new.words other ≡ (code == other || has_bit self.old.words other) }
+        ensures { (other : ℕ) → other < 256
+            → has_bit self.new.words other ≡ (code == other || has_bit self.old.words other) }
     {
         self.words[usize::from(code / 64)] |= 1 << (code % 64);
     }

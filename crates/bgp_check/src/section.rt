@@ -1,5 +1,5 @@
 // The checks of a section of path attributes: of the section as a whole, of each attribute, and of what is missing.
-ghost use Rattle.std.specs.Prelude.{◌≡◌, ℕ, ◌<◌, ◌≤◌, [], ◌∷◌, length, map, find, max, is_none, not, option_map, IfSome};
+ghost use Rattle.std.specs.Prelude.{◌≡◌, ℕ, ◌<◌, ◌≤◌, length, map, find, max, is_none, not, option_map, IfSome};
 ghost use Rattle.xb_wire.specs.Views.{notice_view};
 ghost use Rattle.bgp_attr.specs.Attributes.{attributes, codes_of};
 ghost use Rattle.bgp_attr.specs.Rules.{attr_fault};
@@ -68,7 +68,8 @@ fn first_fault(section: &[u8]) -> Option<Notice<'_>>
 
 // The first mandatory code that is missing.
 fn first_missing(codes: &Codes) -> Option<Notice<'static>>
-    ensures says { option_map notice_view result ≡ option_map missing_notice (find (λ code. not (has_bit codes.now.words code)) mandatory) }
+    ensures says { option_map notice_view result
+        ≡ option_map missing_notice (find (λ code. not (has_bit codes.now.words code)) mandatory) }
     ensures data { IfSome result (λ n. length n.extra.now ≡ 1) }
 {
     if !codes.contains(ORIGIN) {
@@ -83,7 +84,7 @@ fn first_missing(codes: &Codes) -> Option<Notice<'static>>
 }
 
 /// The first fault of a section of path attributes. If prefixes are announced with it, it must have ORIGIN, AS_PATH and
-/// NEXT_HOP. The data of a fault is a part of the section, except for a missing attribute, where it is its code.
+/// NEXT_HOP. The data of a fault is a part of the section, except for a missing attribute: there it is its code.
 #[tactic(auto, unfolding(crate::specs::Judgement::judge_section))]
 pub fn check_section<'a>(section: &'a [u8], announces: bool) -> Option<Notice<'a>>
     ensures fault { option_map notice_view result ≡ judge_section 2 section.now announces }

@@ -26,7 +26,7 @@ fn are_prefixes(octets: &[u8]) -> bool
 }
 
 /// The parts of an UPDATE's body, or its first fault, the body being without the message's header. The data of a fault
-/// is a part of the body, except for a missing attribute, where it is that attribute's code. So it fits a NOTIFICATION
+/// is a part of the body, except for a missing attribute: there it is that attribute's code. So it fits a NOTIFICATION
 /// if the body came in a message.
 #[tactic(auto, unfolding(crate::specs::Judgement::judge))]
 pub fn check_update<'a>(body: &'a [u8]) -> Result<UpdateView<'a>, Notice<'a>>

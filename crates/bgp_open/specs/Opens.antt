@@ -1,6 +1,6 @@
--- The first fault of an OPEN, in the order of this project (RFC 4271, sections 4.2 and 6.2; RFC 5492, section 4, for the
--- parameter that holds capabilities). A body is a version of 1 octet, an AS number of 2, a hold time of 2, an identifier
--- of 4, the length of the parameters in 1, and the parameters.
+-- The first fault of an OPEN, in the order of this project (RFC 4271, sections 4.2 and 6.2; RFC 5492, section 4, for
+-- the parameter that holds capabilities). A body is a version of 1 octet, an AS number of 2, a hold time of 2, an
+-- identifier of 4, the length of the parameters in 1, and the parameters.
 use Rattle.std.specs.Prelude.{ℕ, ◌+◌, Bool, List, [], ◌∷◌, length, take, drop, slice_index, Option, Some, None, option_map, nat_lt, nat_le, ◌==◌, ◌&&◌, not, if◌then◌else◌}
 use Rattle.xb_words.specs.Octets.{two_at, four_at, two_octets}
 use Rattle.xb_words.specs.Cut.{cut}

@@ -6,8 +6,8 @@
 //! without fault gives its hold time and its identifier.
 //!
 //! A parameter must hold capabilities. They must fill it, and are otherwise not read, so nothing is negotiated. Which
-//! fault is the first is defined in `specs/Opens` as a search over the list of parameters; the code is one pass and takes
-//! no memory.
+//! fault is the first is defined in `specs/Opens` as a search over the list of parameters; the code is one pass and
+//! takes no memory.
 #![tactic(auto)]
 
 ghost use Rattle.std.specs.Prelude.{◌≡◌, ◌≤◌, [], length, IfOk, IfErr, IfSome, Some, None};
@@ -56,8 +56,8 @@ pub struct OpenWant {
     pub peer_as: u32,
 }
 
-/// What an accepted OPEN says: its hold time in seconds, and its identifier, whose high octet is the first of its dotted
-/// form.
+/// What an accepted OPEN says: its hold time in seconds, and its identifier, whose high octet is the first of its
+/// dotted form.
 #[derive(Clone, Copy, Debug, PartialEq, Eq)]
 pub struct OpenSeen {
     pub hold: u16,

@@ -2,8 +2,8 @@
 //!
 //! The value of an AS_PATH comes in as a slice. [`Segments::new`] accepts it if segments fill it, and the walk then
 //! returns the segments one after another, each with its AS numbers as octets of the value. However far the walk has
-//! come, the other calls are about the whole path: its length, whether an AS number is in it, its leftmost AS number, and
-//! the path with one AS number prepended, which is written into a slice of the caller. No memory is taken.
+//! come, the other calls are about the whole path: its length, whether an AS number is in it, its leftmost AS number,
+//! and the path with one AS number prepended, which is written into a slice of the caller. No memory is taken.
 //!
 //! What a path is, is defined in bgp_attr's `specs/Paths`. Here `specs/Parts` has what the walk returns, and
 //! `specs/Fronts` what it is to write a text to the front of a slice. The octets of an AS number are an argument in

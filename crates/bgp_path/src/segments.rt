@@ -40,7 +40,8 @@ impl<'a> Model for Segments<'a> {
 
     ghost Value = { PathWalk };
 
-    ghost view = { λ s. record { width = width_of s.wide; value = s.value.now; coming = path_parts (width_of s.wide) s.rest.now } };
+    ghost view = { λ s. let w = width_of s.wide in
+        record { width = w; value = s.value.now; coming = path_parts w s.rest.now } };
 
     ghost invariant = { λ s. (length s.value.now ≤ 65535) × (is_path (width_of s.wide) s.value.now ≡ true)
         × (is_path (width_of s.wide) s.rest.now ≡ true) };
@@ -89,8 +90,8 @@ fn prepended_parts<'a>(path: &'a [u8], wide: bool) -> (u8, &'a [u8])
     requires { is_path (width_of wide) path.now ≡ true }
     ensures octets { (asn : ℕ) → path_octets (width_of wide) (prepend asn (path_in (width_of wide) path.now))
         ≡ AS_SEQUENCE ∷ result.0 ∷ number_octets (width_of wide) asn ++ result.1.now }
-    ensures path { (asn : ℕ) → is_path (width_of wide) (AS_SEQUENCE ∷ result.0 ∷ number_octets (width_of wide) asn ++ result.1.now)
-        ≡ true }
+    ensures path { (asn : ℕ) → is_path (width_of wide)
+        (AS_SEQUENCE ∷ result.0 ∷ number_octets (width_of wide) asn ++ result.1.now) ≡ true }
     ensures within { length result.1.now ≤ length path.now }
 {
     let Some((first, _)) = split_first(path, wide) else {
@@ -103,8 +104,8 @@ fn prepended_parts<'a>(path: &'a [u8], wide: bool) -> (u8, &'a [u8])
 }
 
 impl<'a> Segments<'a> {
-    /// A walk over the segments of an AS_PATH, from the first on, with AS numbers of two octets. None if segments do not
-    /// fill the value (RFC 4271, section 4.3).
+    /// A walk over the segments of an AS_PATH, from the first on, with AS numbers of two octets. None if segments do
+    /// not fill the value (RFC 4271, section 4.3).
     pub fn new(value: &'a [u8]) -> Option<Segments<'a>>
         requires { length value.now ≤ 65535 }
         ensures path { is_some result ≡ is_path 2 value.now }
