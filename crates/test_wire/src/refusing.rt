@@ -16,8 +16,9 @@ pub fn refuse_update(out: &mut Buf, body: &[u8])
     requires body { length body.now ≤ MAX_BODY }
     ensures { IfSome (judge 2 body.now) (λ n. Replaces out.old out.new (notice_message n.code n.subcode n.extra)) }
 {
-    if let Err(notice) = check_update(body) {
-        write_notice(out, notice.code, notice.subcode, notice.extra);
+    match check_update(body) {
+        Ok(_) => {}
+        Err(notice) => write_notice(out, notice.code, notice.subcode, notice.extra),
     }
 }
 
@@ -28,8 +29,9 @@ pub fn refuse_open(out: &mut Buf, body: &[u8], want: &OpenWant)
     ensures { IfSome (judge_open body.now want.now.peer_as)
         (λ n. Replaces out.old out.new (notice_message n.code n.subcode n.extra)) }
 {
-    if let Err(notice) = read_open(body, want) {
-        write_notice(out, notice.code, notice.subcode, notice.extra);
+    match read_open(body, want) {
+        Ok(_) => {}
+        Err(notice) => write_notice(out, notice.code, notice.subcode, notice.extra),
     }
 }
 
