@@ -1,5 +1,5 @@
-//! A plain Rust program of the job of crates/maps_bench: fills an ordered map of std and then does one job in it 1,048,576
-//! times over, with a journal of at most 64 writes, and prints a number that depends on all answers.
+//! A plain Rust program of the job of crates/bench_maps: fills an ordered map of std and then does one job in it 1,048,576
+//! times over, with a journal of at most 64 writes, and prints a number that depends on all results.
 
 use std::collections::BTreeMap;
 use std::env;

@@ -1,12 +1,13 @@
-//! Reads an event log and prints how many events and octets its lines say. It is the program that bench/log measures; the
-//! words are `file LOG`, which reads the log once through a shelf, or `memory LOG`, which parses its lines 64 times over.
+//! Reads an event log and prints how many events and octets its lines say. It is the program that bench/log measures;
+//! the words are `file LOG`, which reads the log once through a shelf, or `memory LOG`, which parses its lines 64
+//! times over.
 //!
-//! It stands on `replay_log` and promises nothing beyond being safe.
+//! It promises nothing beyond being safe.
 #![tactic(auto)]
 
 ghost use Rattle.std.specs.Prelude.{◌≡◌, ◌≤◌, length};
 
-use replay_log::{Got, Line, LogReader, parse_into};
+use replay_log::{Got, LINE_LIMIT, Line, LogReader, OCTETS_LIMIT, parse_into};
 use std::alloc::{AllocError, Global};
 use std::process::ExitCode;
 use std::rt::{Env, Files};
@@ -15,14 +16,11 @@ use xb_domain::Event;
 use xb_io::FileShelf;
 use xb_values::{Buf, split_once};
 
-// How often the lines in memory are parsed: 64 MiB where the log has one.
+// How often the lines in memory are parsed: 64 MiB if the log has one.
 const TIMES: u32 = 64;
 
+// The most peers that a configuration may have, so that any log is in the grammar.
 const PEERS: u32 = 64;
-
-const ROOM: usize = 4200;
-
-const LINE_LIMIT: usize = 8400;
 
 // What the lines so far say.
 #[derive(Clone, Copy, Default)]
@@ -45,10 +43,10 @@ impl Tally {
     }
 }
 
-// Adds what a line says, or answers false where it is outside the grammar.
+// Adds what a line says, or returns false if it is outside the grammar.
 fn add_line(tally: &mut Tally, octets: &mut Buf, line: &[u8]) -> bool
-    requires short { length line.now ≤ 8400 }
-    requires room { 4200 ≤ octets.old.capacity }
+    requires short { length line.now ≤ LINE_LIMIT }
+    requires room { OCTETS_LIMIT ≤ octets.old.capacity }
     ensures { octets.new.capacity ≡ octets.old.capacity }
 {
     match parse_into(octets, line, PEERS, tally.clock) {
@@ -64,7 +62,7 @@ fn add_line(tally: &mut Tally, octets: &mut Buf, line: &[u8]) -> bool
 fn read_log<R: Files + AllocGlobal>(rt: &R, name: &str) -> Result<Option<Tally>, AllocError> {
     let mut shelf = FileShelf::new(rt);
     let mut reader = LogReader::make(rt.alloc())?;
-    let mut octets = Buf::make(rt.alloc(), ROOM)?;
+    let mut octets = Buf::make(rt.alloc(), OCTETS_LIMIT)?;
     let mut tally = Tally::default();
     'lines: loop {
         match reader.next_line(&mut shelf, name) {
@@ -80,7 +78,7 @@ fn read_log<R: Files + AllocGlobal>(rt: &R, name: &str) -> Result<Option<Tally>,
 }
 
 fn add_lines(tally: &mut Tally, octets: &mut Buf, text: &[u8]) -> bool
-    requires { 4200 ≤ octets.old.capacity }
+    requires { OCTETS_LIMIT ≤ octets.old.capacity }
     ensures { octets.new.capacity ≡ octets.old.capacity }
 {
     let mut rest = text;
@@ -94,7 +92,7 @@ fn add_lines(tally: &mut Tally, octets: &mut Buf, text: &[u8]) -> bool
 }
 
 fn parse_lines(alloc: Global, text: &[u8]) -> Result<Option<Tally>, AllocError> {
-    let mut octets = Buf::make(alloc, ROOM)?;
+    let mut octets = Buf::make(alloc, OCTETS_LIMIT)?;
     let mut tally = Tally::default();
     'times: for _ in 0..TIMES {
         tally.clock = 0;

@@ -1,8 +1,7 @@
-//! Fills a map and then does one job in it 1,048,576 times over, and prints a number that depends on all answers.
-//! It is the program that bench/maps measures; the words are JOB (`fill`, `get`, `over`, `new`, `undo` or `walk`) and
-//! ENTRIES (1 to 65,536).
+//! Fills a map and then does one job in it 1,048,576 times over, and prints a number that depends on all results.
 //!
-//! It stands on `xbgp_maps` and promises nothing beyond being safe.
+//! It is the program that bench/maps measures; the words are JOB (`fill`, `get`, `over`, `new`, `undo` or `walk`) and
+//! ENTRIES (1 to 65,536). Nothing is proved of it except that it is safe.
 #![tactic(auto)]
 
 ghost use Rattle.std.specs.Prelude.{◌≡◌, ◌≤◌, [], ◌∷◌, map, None, IsSome, IfOk};
@@ -12,12 +11,13 @@ use std::alloc::{AllocError, Global};
 use std::process::ExitCode;
 use std::rt::Env;
 use std::{env, io};
+use xbgp_maps::limits::{BUDGET, MAX_ENTRIES};
 use xbgp_maps::{MapShape, Maps, Put, Remove};
 
-// Each job is done so often, in runs of as many writes as may stand in one.
+// The runs of a job, each of the most writes that a run may have.
 const RUNS: u32 = 16_384;
 
-const WRITES: u32 = 64;
+const WRITES: u32 = BUDGET as u32;
 
 /// A map of keys of 8 octets and values of 16.
 #[derive(Drop)]
@@ -82,7 +82,7 @@ fn remove(bench: &mut Bench, number: u32) -> u64
     }
 }
 
-// The octets of a value and of a key, as a number that is summed.
+// The last octet of a value, which is summed.
 fn sum_of(octets: Option<&[u8]>) -> u64 {
     match octets {
         Some([.., last]) => u64::from(*last),
@@ -94,7 +94,7 @@ fn get(bench: &Bench, number: u32) -> u64 {
     sum_of(bench.maps.get(0, &key_of(number)))
 }
 
-// The numbers of the entries, each as often, in an order that is no order of keys.
+// The numbers of the entries, each equally often, in an order that is not that of the keys.
 fn number_at(bench: &Bench, run: u32, write: u32) -> u32 {
     run.wrapping_mul(WRITES)
         .wrapping_add(write)
@@ -104,7 +104,7 @@ fn number_at(bench: &Bench, run: u32, write: u32) -> u32 {
 
 fn make(alloc: Global, entries: u32) -> Result<Bench, AllocError>
     requires least { 1 ≤ entries }
-    requires most { entries ≤ 65536 }
+    requires most { entries ≤ MAX_ENTRIES }
     ensures { IfOk result (λ b. b.maps.began ≡ None) }
 {
     let shapes = [MapShape {
@@ -222,7 +222,7 @@ fn run(rt: &(impl Env + Print + AllocGlobal)) -> io::Result<ExitCode> {
     let (Some(job), Ok(entries)) = (job_of(job.as_str()), entries.as_str().parse::<u32>()) else {
         return Ok(ExitCode::from(2));
     };
-    if entries == 0 || entries > 65_536 {
+    if entries == 0 || entries > MAX_ENTRIES {
         return Ok(ExitCode::from(2));
     }
     let mut bench = make(rt.alloc(), entries)?;

@@ -3,19 +3,15 @@ use Rattle.std.proofs.Common.{◌≡◌, refl, subst, inl, inr, ℕ, ◌≤◌, 
 use Rattle.std.specs.Str.{bytes_eq}
 use Rattle.std.proofs.lemmas.Bool.{cases_Bool, leb-true}
 use Rattle.xb_words.specs.Optional.{◌>>=◌}
+use Rattle.xb_words.proofs.OptionalLemmas.{bind-some}
 use Rattle.xb_domain.specs.Events.{Event, start, stop, up, down, octets, time, room, drain, rescan}
 use Rattle.xb_values.specs.Readers.{split_on, number_up_to}
 use Rattle.xb_values.proofs.ReaderLemmas.{number_up_to-le}
-use Rattle.replay_log.specs.Lines.{blank, says, IsFor, at_least, peer_word, count_word, time_word, some_octets, peer_event, one_argument, two_arguments, event_of_words, line_of}
+use Rattle.replay_log.specs.Lines.{blank_line, says, IsFor, at_least, peer_word, count_word, time_word, some_octets, peer_event, one_argument, two_arguments, event_of_words, line_of}
 
--- steps that give something
-stepped : {A B : Type 0} (o : Option A) (f : A → Option B) (b : B) → (o >>= f) ≡ Some b → (a : A) × (o ≡ Some a) × (f a ≡ Some b)
-stepped None f b e = cc e
-stepped (Some a) f b e = (a, refl, e)
-
-number_above : (least most n : ℕ) (text : List ℕ) (o : Option ℕ) → o ≡ number_up_to most text → at_least least o ≡ Some n → (least ≤ n) × (n ≤ most)
-number_above least most n text None is e = cc e
-number_above least most n text (Some m) is e =
+at_least-bounds : (least most n : ℕ) (text : List ℕ) (o : Option ℕ) → o ≡ number_up_to most text → at_least least o ≡ Some n → (least ≤ n) × (n ≤ most)
+at_least-bounds least most n text None is e = cc e
+at_least-bounds least most n text (Some m) is e =
     elim (cases_Bool (nat_le least m)) [
       | inl above ↦
           let some : Some m ≡ Some n = rw above at e in
@@ -24,32 +20,32 @@ number_above least most n text (Some m) is e =
       | inr below ↦ let none : None ≡ Some n = rw below at e in cc none
     ]
 
-between : (least most n : ℕ) (text : List ℕ) → at_least least (number_up_to most text) ≡ Some n → (least ≤ n) × (n ≤ most)
-between least most n text e = number_above least most n text (number_up_to most text) refl e
+at_least-number_up_to : (least most n : ℕ) (text : List ℕ) → at_least least (number_up_to most text) ≡ Some n → (least ≤ n) × (n ≤ most)
+at_least-number_up_to least most n text e = at_least-bounds least most n text (number_up_to most text) refl e
 
-chosen : {A : Type 0} (test : Bool) (f g : Option A) (b : A) → (if test then f else g) ≡ Some b → (f ≡ Some b) ⊎ (g ≡ Some b)
-chosen true f g b e = inl e
-chosen false f g b e = inr e
+some-if : {A : Type 0} (test : Bool) (f g : Option A) (b : A) → (if test then f else g) ≡ Some b → (f ≡ Some b) ⊎ (g ≡ Some b)
+some-if true f g b e = inl e
+some-if false f g b e = inr e
 
-of_peer : (peers now p : ℕ) (f h : ℕ → Event) → IsFor peers now (f p) → Some f ≡ Some h → IsFor peers now (h p)
-of_peer peers now p f h fits e = let same : f ≡ h = cc e in subst (λ (g : ℕ → Event). IsFor peers now (g p)) same fits
+IsFor-peer : (peers now p : ℕ) (f h : ℕ → Event) → IsFor peers now (f p) → Some f ≡ Some h → IsFor peers now (h p)
+IsFor-peer peers now p f h fits e = let same : f ≡ h = cc e in subst (λ (g : ℕ → Event). IsFor peers now (g p)) same fits
 
-peer_event_fits : (peers now p : ℕ) (word : List ℕ) (h : ℕ → Event) → (1 ≤ p) × (p ≤ peers) → peer_event word ≡ Some h → IsFor peers now (h p)
-peer_event_fits peers now p word h fits e =
-    elim (chosen (bytes_eq word (codes "start")) _ _ h e) [
-      | inl is ↦ of_peer peers now p start h fits is
+IsFor-peer_event : (peers now p : ℕ) (word : List ℕ) (h : ℕ → Event) → (1 ≤ p) × (p ≤ peers) → peer_event word ≡ Some h → IsFor peers now (h p)
+IsFor-peer_event peers now p word h fits e =
+    elim (some-if (bytes_eq word (codes "start")) _ _ h e) [
+      | inl is ↦ IsFor-peer peers now p start h fits is
       | inr e ↦
-          elim (chosen (bytes_eq word (codes "stop")) _ _ h e) [
-            | inl is ↦ of_peer peers now p stop h fits is
+          elim (some-if (bytes_eq word (codes "stop")) _ _ h e) [
+            | inl is ↦ IsFor-peer peers now p stop h fits is
             | inr e ↦
-                elim (chosen (bytes_eq word (codes "up")) _ _ h e) [
-                  | inl is ↦ of_peer peers now p up h fits is
+                elim (some-if (bytes_eq word (codes "up")) _ _ h e) [
+                  | inl is ↦ IsFor-peer peers now p up h fits is
                   | inr e ↦
-                      elim (chosen (bytes_eq word (codes "down")) _ _ h e) [
-                        | inl is ↦ of_peer peers now p down h fits is
+                      elim (some-if (bytes_eq word (codes "down")) _ _ h e) [
+                        | inl is ↦ IsFor-peer peers now p down h fits is
                         | inr e ↦
-                            elim (chosen (bytes_eq word (codes "drain")) _ _ h e) [
-                              | inl is ↦ of_peer peers now p drain h fits is
+                            elim (some-if (bytes_eq word (codes "drain")) _ _ h e) [
+                              | inl is ↦ IsFor-peer peers now p drain h fits is
                               | inr none ↦ cc none
                             ]
                       ]
@@ -57,56 +53,57 @@ peer_event_fits peers now p word h fits e =
           ]
     ]
 
-fits_as : (peers now : ℕ) (e event : Event) → IsFor peers now e → Some e ≡ Some event → IsFor peers now event
-fits_as peers now e event fits is = let same : e ≡ event = cc is in subst (IsFor peers now) same fits
+IsFor-same : (peers now : ℕ) (e event : Event) → IsFor peers now e → Some e ≡ Some event → IsFor peers now event
+IsFor-same peers now e event fits is = let same : e ≡ event = cc is in subst (IsFor peers now) same fits
 
-one_fits : (peers now : ℕ) (word a : List ℕ) (event : Event) → one_argument peers now word a ≡ Some event → IsFor peers now event
-one_fits peers now word a event e =
-    elim (chosen (bytes_eq word (codes "time")) (time_word now a >>= λ t. Some (time t)) (peer_event word >>= λ f. peer_word peers a >>= λ p. Some (f p)) event e) [
+IsFor-one_argument : (peers now : ℕ) (word a : List ℕ) (event : Event) → one_argument peers now word a ≡ Some event → IsFor peers now event
+IsFor-one_argument peers now word a event e =
+    elim (some-if (bytes_eq word (codes "time")) (time_word now a >>= λ t. Some (time t)) (peer_event word >>= λ f. peer_word peers a >>= λ p. Some (f p)) event e) [
       | inl is ↦
-          let (t, clock, same) = stepped (time_word now a) (λ t. Some (time t)) event is in
-          fits_as peers now (time t) event (between now (2 ^ 32 - 1) t a clock).0 same
+          let (t, clock, same) = bind-some (time_word now a) (λ t. Some (time t)) event is in
+          IsFor-same peers now (time t) event (at_least-number_up_to now (2 ^ 32 - 1) t a clock).0 same
       | inr is ↦
-          let (f, of_word, rest) = stepped (peer_event word) (λ f. peer_word peers a >>= λ p. Some (f p)) event is in
-          let (p, peer, same) = stepped (peer_word peers a) (λ p. Some (f p)) event rest in
-          fits_as peers now (f p) event (peer_event_fits peers now p word f (between 1 peers p a peer) of_word) same
+          let (f, of_word, rest) = bind-some (peer_event word) (λ f. peer_word peers a >>= λ p. Some (f p)) event is in
+          let (p, peer, same) = bind-some (peer_word peers a) (λ p. Some (f p)) event rest in
+          IsFor-same peers now (f p) event (IsFor-peer_event peers now p word f (at_least-number_up_to 1 peers p a peer) of_word) same
     ]
 
-two_fits : (peers now : ℕ) (word a b : List ℕ) (event : Event) → two_arguments peers word a b ≡ Some event → IsFor peers now event
-two_fits peers now word a b event e =
-    elim (chosen (bytes_eq word (codes "in")) (peer_word peers a >>= λ p. some_octets b >>= λ bytes. Some (octets p bytes))
+IsFor-two_arguments : (peers now : ℕ) (word a b : List ℕ) (event : Event) → two_arguments peers word a b ≡ Some event → IsFor peers now event
+IsFor-two_arguments peers now word a b event e =
+    elim (some-if (bytes_eq word (codes "in")) (peer_word peers a >>= λ p. some_octets b >>= λ bytes. Some (octets p bytes))
     (if bytes_eq word (codes "room") then (peer_word peers a >>= λ p. count_word b >>= λ k. Some (room p k)) else None) event e) [
       | inl is ↦
-          let (p, peer, rest) = stepped (peer_word peers a) (λ p. some_octets b >>= λ bytes. Some (octets p bytes)) event is in
-          let (bytes, some, same) = stepped (some_octets b) (λ bytes. Some (octets p bytes)) event rest in
-          fits_as peers now (octets p bytes) event (between 1 peers p a peer) same
+          let (p, peer, rest) = bind-some (peer_word peers a) (λ p. some_octets b >>= λ bytes. Some (octets p bytes)) event is in
+          let (bytes, some, same) = bind-some (some_octets b) (λ bytes. Some (octets p bytes)) event rest in
+          IsFor-same peers now (octets p bytes) event (at_least-number_up_to 1 peers p a peer) same
       | inr e ↦
-          elim (chosen (bytes_eq word (codes "room")) (peer_word peers a >>= λ p. count_word b >>= λ k. Some (room p k)) None event e) [
+          elim (some-if (bytes_eq word (codes "room")) (peer_word peers a >>= λ p. count_word b >>= λ k. Some (room p k)) None event e) [
             | inl is ↦
-                let (p, peer, rest) = stepped (peer_word peers a) (λ p. count_word b >>= λ k. Some (room p k)) event is in
-                let (k, some, same) = stepped (count_word b) (λ k. Some (room p k)) event rest in
-                fits_as peers now (room p k) event (between 1 peers p a peer) same
+                let (p, peer, rest) = bind-some (peer_word peers a) (λ p. count_word b >>= λ k. Some (room p k)) event is in
+                let (k, some, same) = bind-some (count_word b) (λ k. Some (room p k)) event rest in
+                IsFor-same peers now (room p k) event (at_least-number_up_to 1 peers p a peer) same
             | inr none ↦ cc none
           ]
     ]
 
-words_fit : (peers now : ℕ) (words : List (List ℕ)) (event : Event) → event_of_words peers now words ≡ Some event → IsFor peers now event
+IsFor-event_of_words : (peers now : ℕ) (words : List (List ℕ)) (event : Event) → event_of_words peers now words ≡ Some event → IsFor peers now event
 unfolding event_of_words
-words_fit peers now [] event e = cc e
-words_fit peers now (word ∷ []) event e =
-    elim (chosen (bytes_eq word (codes "rescan")) (Some rescan) None event e) [ inl is ↦ fits_as peers now rescan event tt is | inr none ↦ cc none ]
-words_fit peers now (word ∷ a ∷ []) event e = one_fits peers now word a event e
-words_fit peers now (word ∷ a ∷ b ∷ []) event e = two_fits peers now word a b event e
-words_fit peers now (word ∷ a ∷ b ∷ c ∷ others) event e = cc e
+IsFor-event_of_words peers now [] event e = cc e
+IsFor-event_of_words peers now (word ∷ []) event e =
+    elim (some-if (bytes_eq word (codes "rescan")) (Some rescan) None event e) [ inl is ↦ IsFor-same peers now rescan event tt is | inr none ↦ cc none ]
+IsFor-event_of_words peers now (word ∷ a ∷ []) event e = IsFor-one_argument peers now word a event e
+IsFor-event_of_words peers now (word ∷ a ∷ b ∷ []) event e = IsFor-two_arguments peers now word a b event e
+IsFor-event_of_words peers now (word ∷ a ∷ b ∷ c ∷ others) event e = cc e
 
-pub line_fits : (peers now : ℕ) (line : List ℕ) (event : Event) → line_of peers now line ≡ Some (says event) → IsFor peers now event
+-- the event of a line
+pub IsFor-line_of : (peers now : ℕ) (line : List ℕ) (event : Event) → line_of peers now line ≡ Some (says event) → IsFor peers now event
 unfolding line_of
-line_fits peers now [] event e = cc e
-line_fits peers now (c ∷ text) event e =
-    elim (chosen (c == 35) (Some blank) (event_of_words peers now (split_on 32 (c ∷ text)) >>= λ e. Some (says e)) (says event) e) [
+IsFor-line_of peers now [] event e = cc e
+IsFor-line_of peers now (c ∷ text) event e =
+    elim (some-if (c == 35) (Some blank_line) (event_of_words peers now (split_on 32 (c ∷ text)) >>= λ e. Some (says e)) (says event) e) [
       | inl is ↦ cc is
       | inr is ↦
-          let (said, words, same) = stepped (event_of_words peers now (split_on 32 (c ∷ text))) (λ e. Some (says e)) (says event) is in
+          let (said, words, same) = bind-some (event_of_words peers now (split_on 32 (c ∷ text))) (λ e. Some (says e)) (says event) is in
           let is_event : said ≡ event = cc same in
-          subst (IsFor peers now) is_event (words_fit peers now (split_on 32 (c ∷ text)) said words)
+          subst (IsFor peers now) is_event (IsFor-event_of_words peers now (split_on 32 (c ∷ text)) said words)
     ]

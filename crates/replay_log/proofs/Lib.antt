@@ -3,4 +3,4 @@ pub mod HexLemmas
 pub mod ReadingLemmas
 pub mod LogLemmas
 pub mod FitLemmas
-mod Rows
+mod LogRows

@@ -1,4 +1,4 @@
 pub mod Lines
 pub mod Logs
-pub mod Said
+pub mod Views
 pub mod Readings

@@ -1,4 +1,4 @@
--- What one line of an event log says: words that are separated by one space (this project's own).
+-- What one line of an event log says: words with one space between them (this project's own).
 use Rattle.std.specs.Prelude.{ℕ, ◌+◌, ◌-◌, ◌*◌, ◌^◌, ◌≤◌, List, [], ◌∷◌, Option, Some, None, nat_le, codes, ◌==◌, if◌then◌else◌}
 use Rattle.std.specs.Str.{bytes_eq}
 use Rattle.xb_words.specs.Optional.{◌>>=◌}
@@ -7,10 +7,10 @@ use Rattle.xb_values.specs.Readers.{split_on, number_up_to, hex_value, read_hex}
 
 -- what a line says: nothing, or an event
 pub data Line : Type 0 where
-  blank : Line
+  blank_line : Line
   says : Event → Line
 
--- an event names one of so many peers, and a time is not below the clock
+-- an event names a peer from 1 to `peers`, and a time is not below the clock `now`
 abbrev pub IsFor : ℕ → ℕ → Event → Type 0
 IsFor peers now (start p) = (1 ≤ p) × (p ≤ peers)
 IsFor peers now (stop p) = (1 ≤ p) × (p ≤ peers)
@@ -22,7 +22,7 @@ IsFor peers now (room p k) = (1 ≤ p) × (p ≤ peers)
 IsFor peers now (drain p) = (1 ≤ p) × (p ≤ peers)
 IsFor peers now rescan = Unit {0}
 
--- a number, where it is not below another
+-- a number that is not below a least one
 abbrev pub at_least : ℕ → Option ℕ → Option ℕ
 at_least least None = None
 at_least least (Some n) = if nat_le least n then Some n else None
@@ -31,11 +31,11 @@ at_least least (Some n) = if nat_le least n then Some n else None
 abbrev pub peer_word : ℕ → List ℕ → Option ℕ
 peer_word peers word = at_least 1 (number_up_to peers word)
 
--- a count of octets, above 0
+-- a count of octets, from 1
 abbrev pub count_word : List ℕ → Option ℕ
 count_word word = at_least 1 (number_up_to (2 ^ 32 - 1) word)
 
--- a time that does not fall
+-- a time in seconds that is not below the clock `now`
 abbrev pub time_word : ℕ → List ℕ → Option ℕ
 time_word now word = at_least now (number_up_to (2 ^ 32 - 1) word)
 
@@ -51,7 +51,7 @@ abbrev pub some_octets : List ℕ → Option (List ℕ)
 some_octets [] = None
 some_octets (c ∷ text) = read_hex (c ∷ text)
 
--- the event of a word behind which a peer stands alone
+-- the event of a word that a peer's number follows, and nothing else
 abbrev pub peer_event : List ℕ → Option (ℕ → Event)
 peer_event word =
     if bytes_eq word (codes "start") then Some start
@@ -97,11 +97,12 @@ event_of_words peers now (word ∷ a ∷ []) = one_argument peers now word a
 event_of_words peers now (word ∷ a ∷ b ∷ []) = two_arguments peers word a b
 event_of_words peers now (word ∷ a ∷ b ∷ c ∷ others) = None
 
--- a line without its end, for so many peers and from a clock on; an empty one and one that begins with `#` mean nothing
+-- a line without its end, for peers numbered 1 to `peers`, if the clock is `now`; an empty line and one that begins
+-- with `#` mean nothing
 unfoldable pub line_of : ℕ → ℕ → List ℕ → Option Line
-line_of peers now [] = Some blank
+line_of peers now [] = Some blank_line
 line_of peers now (c ∷ text) =
-    if c == 35 then Some blank
+    if c == 35 then Some blank_line
     else
     (do
       e ← event_of_words peers now (split_on 32 (c ∷ text))

@@ -1,3 +1,4 @@
+//! Octets that are written as hexadecimal digits of either case, two digits each.
 ghost use Rattle.std.specs.Prelude.{◌≡◌, ◌*◌, ◌≤◌, length, Some, is_some};
 ghost use Rattle.std.specs.Bool.{OnTrue};
 ghost use Rattle.xb_values.specs.Readers.{hex_value, read_hex};
@@ -22,7 +23,7 @@ fn octet_of(high: u8, low: u8) -> Option<u8>
     Some(16 * digit_of(high)? + digit_of(low)?)
 }
 
-/// Replaces the content of a buffer by the octets that hexadecimal digits of either case say, two digits each.
+/// Replaces the content of `octets` by the octets that `text` says. If it returns false, the content is unspecified.
 pub(crate) fn read_hex(text: &[u8], octets: &mut Buf) -> bool
     requires { length text.now ≤ 2 * octets.old.capacity }
     ensures read { result ≡ is_some (read_hex text.now) }
@@ -33,9 +34,7 @@ pub(crate) fn read_hex(text: &[u8], octets: &mut Buf) -> bool
     let mut digits = text;
     'pairs: while let [high, low, others @ ..] = digits {
         match octet_of(*high, *low) {
-            Some(octet) => {
-                let _ = octets.push(&[octet]);
-            }
+            Some(octet) => octets.append(&[octet]),
             None => return false,
         }
         digits = others;

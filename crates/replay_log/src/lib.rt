@@ -1,17 +1,22 @@
 //! The event log of a replay: what a line says, and the lines of a log.
 //!
-//! It stands on `xb_base`. `specs/Lines` has the grammar of a line, which `parse_line` reads; `specs/Logs` has the log as
-//! its events and how it ends. `LogReader` gives a log line by line: `specs/Readings` says what comes at a place of it, and
-//! `laws::line_by_line` that these lines, parsed in turn, say the log.
+//! A log is text. Each of its lines is one event, or nothing: `specs/Lines` has the grammar, which `parse_line` reads.
+//! A line names a peer by its number, which is judged by how many peers are configured, and a `time` line may not set
+//! the clock back; so `parse_line` takes both. The octets of an `in` line go into a buffer of the caller, which the
+//! event borrows.
+//!
+//! `LogReader` reads the named log from a shelf, line by line, in memory that it takes once. `specs/Logs` has a log as
+//! its events and how it ends: at its end, at the first line that is refused, or at its limit. `specs/Readings` has
+//! what comes at an offset of it, and `laws::line_by_line` says that these lines, parsed in turn, are the log. To play
+//! the events, and to count lines for a fault, is left to the caller.
 #![tactic(auto)]
 
 mod hex;
 pub mod laws;
+mod limits;
 mod line;
 mod reader;
 
+pub use limits::{LINE_LIMIT, LOG_LIMIT, OCTETS_LIMIT};
 pub use line::{Line, parse_into, parse_line};
 pub use reader::{Got, LogReader};
-
-#[cfg(test)]
-mod tests;

@@ -1,3 +1,4 @@
+//! What one line of a log says.
 ghost use Rattle.std.specs.Prelude.{◌≡◌, ℕ, ◌≤◌, ◌∷◌, length, Some, None, false, codes, if◌then◌else◌};
 ghost use Rattle.std.specs.Borrow.{sem};
 ghost use Rattle.std.specs.Option.{option_map};
@@ -6,21 +7,21 @@ ghost use Rattle.xb_domain.specs.Views.{event_view};
 ghost use Rattle.xb_domain.specs.Events.{octets as octets_in, rescan};
 ghost use Rattle.xb_values.specs.Readers.{split_on, number_up_to};
 ghost use Rattle.replay_log.specs.Lines.{at_least, peer_event, event_of_words, line_of};
-ghost use Rattle.replay_log.specs.Logs.{longest_line};
-ghost use Rattle.replay_log.specs.Said.{said, told_with, KeepsRoom};
+ghost use Rattle.replay_log.specs.Views.{line_view, told_view, KeepsRoom};
 
 use crate::hex::read_hex;
+use crate::limits::{LINE_LIMIT, OCTETS_LIMIT};
 use xb_domain::Event;
 use xb_values::{Buf, read_decimal, split_once};
 
-/// What a line says: nothing, or an event. The octets of an event stand in the buffer that the line was read with.
+/// What a line says: nothing, or an event. The octets of an event are in the buffer that the line was parsed into.
 #[derive(Clone, Copy, Debug)]
 pub enum Line<'a> {
     Blank,
     Event(Event<'a>),
 }
 
-// What a line says, but for the octets of an event.
+// What a line says, except the octets of an event; they are in the buffer.
 #[derive(Clone, Copy)]
 enum Told {
     Blank,
@@ -28,7 +29,7 @@ enum Told {
     Event(Event<'static>),
 }
 
-// A number from the least to the most.
+// The number that a text is, if it is from `least` to `most`.
 fn number_in(text: &[u8], least: u32, most: u32) -> Option<u32>
     ensures { result ≡ at_least least (number_up_to most text.now) }
 {
@@ -40,26 +41,21 @@ fn number_in(text: &[u8], least: u32, most: u32) -> Option<u32>
     }
 }
 
-// The event of a word behind which a peer stands alone.
+// The event for a word followed by a peer number and nothing else.
 fn peer_event(word: &[u8], peer: u32) -> Option<Event<'static>>
     ensures { option_map event_view result ≡ option_map (λ e. e peer) (peer_event word.now) }
 {
-    if word == b"start".as_slice() {
-        Some(Event::Start(peer))
-    } else if word == b"stop".as_slice() {
-        Some(Event::Stop(peer))
-    } else if word == b"up".as_slice() {
-        Some(Event::Up(peer))
-    } else if word == b"down".as_slice() {
-        Some(Event::Down(peer))
-    } else if word == b"drain".as_slice() {
-        Some(Event::Drain(peer))
-    } else {
-        None
+    match word {
+        b"start" => Some(Event::Start(peer)),
+        b"stop" => Some(Event::Stop(peer)),
+        b"up" => Some(Event::Up(peer)),
+        b"down" => Some(Event::Down(peer)),
+        b"drain" => Some(Event::Drain(peer)),
+        _ => None,
     }
 }
 
-// The event of a word behind which nothing stands.
+// The event for a word followed by nothing.
 fn lone_event(word: &[u8]) -> Option<Event<'static>>
     ensures { option_map event_view result ≡ (if bytes_eq word.now (codes "rescan") then Some rescan else None) }
 {
@@ -70,8 +66,8 @@ fn lone_event(word: &[u8]) -> Option<Event<'static>>
     }
 }
 
-// The event of a word and what stands behind it, but for octets.
-fn event_behind(word: &[u8], arguments: &[u8], peers: u32, now: u32) -> Option<Event<'static>>
+// The event for a word and its arguments, except for `in`.
+fn word_event(word: &[u8], arguments: &[u8], peers: u32, now: u32) -> Option<Event<'static>>
     requires { bytes_eq word.now (codes "in") ≡ false }
     ensures { option_map event_view result ≡ event_of_words peers now (word.now ∷ split_on 32 arguments.now) }
 {
@@ -86,11 +82,12 @@ fn event_behind(word: &[u8], arguments: &[u8], peers: u32, now: u32) -> Option<E
     }
 }
 
-// The peer of octets that come in, which replace the content of the buffer.
-fn octets_behind(arguments: &[u8], peers: u32, octets: &mut Buf) -> Option<u32>
-    requires short { length arguments.now ≤ 8400 }
-    requires room { 4200 ≤ octets.old.capacity }
-    ensures event { (now : ℕ) → option_map (λ p. octets_in p octets.new.octets) result ≡ event_of_words peers now (codes "in" ∷ split_on 32 arguments.now) }
+// The peer of an `in` line. The octets that came from it replace the content of the buffer.
+fn octets_peer(arguments: &[u8], peers: u32, octets: &mut Buf) -> Option<u32>
+    requires short { length arguments.now ≤ LINE_LIMIT }
+    requires room { OCTETS_LIMIT ≤ octets.old.capacity }
+    ensures event { (now : ℕ) → option_map (λ p. octets_in p octets.new.octets) result
+        ≡ event_of_words peers now (codes "in" ∷ split_on 32 arguments.now) }
     ensures capacity { octets.new.capacity ≡ octets.old.capacity }
 {
     let (peer, digits) = split_once(arguments, b' ')?;
@@ -102,11 +99,11 @@ fn octets_behind(arguments: &[u8], peers: u32, octets: &mut Buf) -> Option<u32>
     }
 }
 
-// What a line says. The octets of an event stand in the buffer.
+// What a line says. The octets of an event replace the content of the buffer.
 fn read_line(line: &[u8], peers: u32, now: u32, octets: &mut Buf) -> Option<Told>
-    requires short { length line.now ≤ 8400 }
-    requires room { 4200 ≤ octets.old.capacity }
-    ensures line { option_map (told_with octets.new.octets) result ≡ line_of peers now line.now }
+    requires short { length line.now ≤ LINE_LIMIT }
+    requires room { OCTETS_LIMIT ≤ octets.old.capacity }
+    ensures line { option_map (told_view octets.new.octets) result ≡ line_of peers now line.now }
     ensures capacity { octets.new.capacity ≡ octets.old.capacity }
 {
     if line.is_empty() || line[0] == b'#' {
@@ -115,14 +112,14 @@ fn read_line(line: &[u8], peers: u32, now: u32, octets: &mut Buf) -> Option<Told
     match split_once(line, b' ') {
         None => Some(Told::Event(lone_event(line)?)),
         Some((word, arguments)) if word == b"in".as_slice() => {
-            Some(Told::Octets(octets_behind(arguments, peers, octets)?))
+            Some(Told::Octets(octets_peer(arguments, peers, octets)?))
         }
-        Some((word, arguments)) => Some(Told::Event(event_behind(word, arguments, peers, now)?)),
+        Some((word, arguments)) => Some(Told::Event(word_event(word, arguments, peers, now)?)),
     }
 }
 
 fn with_octets<'a>(told: Option<Told>, octets: &'a [u8]) -> Option<Line<'a>>
-    ensures { option_map said result ≡ option_map (told_with octets.now) told }
+    ensures { option_map line_view result ≡ option_map (told_view octets.now) told }
 {
     match told {
         None => None,
@@ -132,25 +129,26 @@ fn with_octets<'a>(told: Option<Told>, octets: &'a [u8]) -> Option<Line<'a>>
     }
 }
 
-/// The same as `parse_line`. Its contract says besides that the buffer has its old capacity once the line is gone, so that
-/// it serves for the next one.
+/// The same as `parse_line`, with the buffer first. Its contract also says that the buffer has its old capacity once
+/// the line is gone, so that it serves for the next one.
 pub fn parse_into<'a>(octets: &'a mut Buf, line: &[u8], peers: u32, now: u32) -> Option<Line<'a>>
-    requires short { length line.now ≤ longest_line }
-    requires room { 4200 ≤ octets.old.capacity }
+    requires short { length line.now ≤ LINE_LIMIT }
+    requires room { OCTETS_LIMIT ≤ octets.old.capacity }
     ensures* keeps { sem 𝓛 (KeepsRoom octets.entry) }
-    ensures line { option_map said result ≡ line_of peers now line.now }
+    ensures line { option_map line_view result ≡ line_of peers now line.now }
 {
     let told = read_line(line, peers, now, octets);
     with_octets(told, octets.as_slice())
 }
 
-/// What a line without its end says, for so many peers and from a clock on, or None where it is outside the grammar.
+/// Parses a line without its end, for peers numbered 1 to `peers` and a clock of `now` seconds. None if the line is
+/// outside the grammar, which also refuses the number of another peer and a time before `now`.
 ///
-/// It replaces the content of `octets`, in which the octets of an event then stand.
+/// The content of `octets` is replaced by the octets of an `in` line; after any other line it is unspecified.
 pub fn parse_line<'a>(line: &[u8], peers: u32, now: u32, octets: &'a mut Buf) -> Option<Line<'a>>
-    requires short { length line.now ≤ longest_line }
-    requires room { 4200 ≤ octets.old.capacity }
-    ensures { option_map said result ≡ line_of peers now line.now }
+    requires short { length line.now ≤ LINE_LIMIT }
+    requires room { OCTETS_LIMIT ≤ octets.old.capacity }
+    ensures { option_map line_view result ≡ line_of peers now line.now }
 {
     parse_into(octets, line, peers, now)
 }

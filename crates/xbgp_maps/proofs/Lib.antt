@@ -1,5 +1,5 @@
-pub mod Heights
-pub mod Trees
-pub mod Tables
-pub mod Journals
-pub mod Shapes
+pub mod HeightLemmas
+pub mod TreesLemmas
+pub mod TablesLemmas
+pub mod JournalsLemmas
+pub mod MappingsLemmas

@@ -1,4 +1,4 @@
--- What a table keeps: a tree of the entries of one map, and as many spare nodes as the map may have more entries.
+-- What a table keeps: a tree of the entries of one map, and a spare node for each entry it has room for (for table.rt).
 use Rattle.std.specs.Prelude.{◌≡◌, ℕ, ◌+◌, ◌≤◌, List, length}
 use Rattle.std.specs.List.{AllByRecursion}
 use Rattle.xbgp_maps.specs.declared.node.Node.{Node}
@@ -12,7 +12,8 @@ pub record IsBlank (shape : MapShape) (n : Node) : Type 0 where
   pub value : length n.value.items ≡ shape.value
   pub alone : IsAlone n
 
--- the map is one as it should be, and there are as many spare nodes as it may have more entries, with room for all nodes
+-- the map keeps what every map keeps, each entry that it may have has a node or a spare node, and the list of spare
+-- nodes has room for all of them
 pub record IsTable (m : Mapping) (spare : List Node) (room : ℕ) : Type 0 where
   pub kept : IsMapping m
   pub count : length m.entries + length spare ≡ m.shape.entries

@@ -1,4 +1,4 @@
--- What a search tree is seen as, and how low it is.
+-- What contracts see of a search tree, and its heights (for the private functions of node.rt and tree.rt).
 use Rattle.std.specs.Prelude.{◌≡◌, ℕ, ◌+◌, ◌<◌, ◌≤◌, max, List, [], ◌∷◌, ◌++◌, length, Option, Some, None, MatchOption}
 use Rattle.std.specs.List.{AllByRecursion}
 use Rattle.xb_words.specs.Table.{value_at}
@@ -9,7 +9,8 @@ use Rattle.xbgp_maps.specs.Mappings.{key_cmp}
 -- the entries in order
 abbrev pub entries_of : Tree → List (List ℕ × List ℕ)
 entries_of Leaf = []
-entries_of (Fork' p key value height left right) = entries_of left ++ (key.items, value.items) ∷ entries_of right
+entries_of (Fork' p key value height left right) =
+    entries_of left ++ (key.items, value.items) ∷ entries_of right
 
 -- the entry of one node
 abbrev pub entry_of : Node → List ℕ × List ℕ
@@ -19,13 +20,15 @@ entry_of n = (n.key.items, n.value.items)
 abbrev pub entries_below : Node → List (List ℕ × List ℕ)
 entries_below n = entries_of n.left ++ entry_of n ∷ entries_of n.right
 
--- a node with nothing below it
+-- a node without sides
 abbrev pub IsAlone : Node → Type 0
 IsAlone n = (n.left ≡ Leaf) × (n.right ≡ Leaf)
 
--- a node that was taken out has the entry that stood at the key, and is alone
+-- a node that was removed has the entry that was at the key, and is alone
 abbrev pub IsTaken : List (List ℕ × List ℕ) → List ℕ → Option Node → Type 0
-IsTaken es key taken = MatchOption taken (value_at key_cmp es key ≡ None) (λ n. (value_at key_cmp es key ≡ Some n.value.items) × (n.key.items ≡ key) × IsAlone n)
+IsTaken es key taken =
+    MatchOption taken (value_at key_cmp es key ≡ None)
+    (λ n. (value_at key_cmp es key ≡ Some n.value.items) × (n.key.items ≡ key) × IsAlone n)
 
 -- each value has a width
 pub record HaveWidth (width : ℕ) (es : List (List ℕ × List ℕ)) : Type 0 where
@@ -36,11 +39,12 @@ abbrev pub height_of : Tree → ℕ
 height_of Leaf = 0
 height_of (Fork' p key value height left right) = height
 
--- the trees at the sides, which are empty in an empty tree
+-- the tree at the left, which is empty in an empty tree
 abbrev pub left_of : Tree → Tree
 left_of Leaf = Leaf
 left_of (Fork' p key value height left right) = left
 
+-- the same at the right
 abbrev pub right_of : Tree → Tree
 right_of Leaf = Leaf
 right_of (Fork' p key value height left right) = right
@@ -51,21 +55,23 @@ pub record IsLevel (height l r : ℕ) : Type 0 where
   pub left : l ≤ r + 1
   pub right : r ≤ l + 1
 
--- so it is at each node
+-- each node is level
 abbrev pub IsBalanced : Tree → Type 0
 IsBalanced Leaf = Unit {0}
-IsBalanced (Fork' p key value height left right) = IsLevel height (height_of left) (height_of right) × IsBalanced left × IsBalanced right
+IsBalanced (Fork' p key value height left right) =
+    IsLevel height (height_of left) (height_of right) × IsBalanced left × IsBalanced right
 
--- so it is at a node and at each below it
+-- a node and each node below it are level
 abbrev pub IsBalancedBelow : Node → Type 0
-IsBalancedBelow n = IsLevel n.height (height_of n.left) (height_of n.right) × IsBalanced n.left × IsBalanced n.right
+IsBalancedBelow n =
+    IsLevel n.height (height_of n.left) (height_of n.right) × IsBalanced n.left × IsBalanced n.right
 
--- a height that is far below the greatest number of one octet
+-- a height far below 255, the greatest number that a node has room for
 abbrev pub IsLow : ℕ → Type 0
 IsLow height = height ≤ 200
 
 -- a height is another one or one over it
-pub record IsNext (low high : ℕ) : Type 0 where
+pub record IsSameOrOneMore (low high : ℕ) : Type 0 where
   pub least : low ≤ high
   pub most : high ≤ low + 1
 
@@ -76,7 +82,8 @@ pub record IsMended (l r height : ℕ) : Type 0 where
   pub most : height ≤ max l r + 1
   pub level : l ≤ r + 1 → r ≤ l + 1 → height ≡ max l r + 1
 
--- the node at the left has come up: its own left side stays there, and at its right stands the old node, which has the tree between
+-- the node at the left has come up: it keeps its left side, and its right side is the old node, which has the tree
+-- between them
 pub record IsTurnedRight (l r : Tree) (n : Node) : Type 0 where
   pub left : n.left ≡ left_of l
   pub middle : left_of n.right ≡ right_of l
@@ -92,7 +99,7 @@ pub record IsTurnedLeft (l r : Tree) (n : Node) : Type 0 where
   pub down : height_of n.left ≡ max (height_of l) (height_of (left_of r)) + 1
   pub up : n.height ≡ max (height_of n.left) (height_of (right_of r)) + 1
 
--- its left side is one level below a height, and its right side no higher and at most two levels lower
+-- the left side is one level below a height, and the right side is not higher and at most two levels lower
 pub record LeansLeft (height : ℕ) (t : Tree) : Type 0 where
   pub some : 0 < height_of t
   pub left : height_of (left_of t) + 1 ≡ height

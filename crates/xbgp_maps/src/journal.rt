@@ -1,56 +1,42 @@
-// The writes of a run, each with what stood there before.
-ghost use Rattle.std.specs.Prelude.{◌≡◌, ◌+◌, ◌-◌, ◌<◌, ◌≤◌, [], ◌∷◌, ◌++◌, length, take, nat_le, vec_capacity, IfOk, IfSome};
-ghost use Rattle.std.specs.List.{AllByRecursion, slice_get};
+// The writes of a run, each with the value before it, so that they can be taken back.
+ghost use Rattle.std.specs.Prelude.{◌≡◌, ◌-◌, ◌<◌, ◌≤◌, [], ◌∷◌, ◌++◌, length, take, nat_le, IfOk, IfSome};
+ghost use Rattle.std.specs.List.{slice_get};
 ghost use Rattle.std.specs.Option.{option_map};
-ghost use Rattle.xbgp_maps.specs.Mappings.{budget};
 
+use crate::limits::{BUDGET, MAX_KEY, MAX_VALUE};
 use std::alloc::{AllocError, Global};
 use std::marker::Model;
+use xb_values::Buf;
 
-/// So many writes may stand in a journal.
-const BUDGET: usize = 64;
-
-// No map has wider keys and values.
-const KEY: usize = 64;
-
-const VALUE: usize = 256;
-
-/// A write: the map, the key, and the value that stood there before, or none.
+/// A write: the map, the key, and the value before it, if there was one.
 #[derive(Drop)]
-pub struct Change {
+pub(crate) struct Change {
     map: u32,
-    key: Vec<u8>,
-    value: Vec<u8>,
+    key: Buf,
+    value: Buf,
     was_there: bool,
 }
 
 impl Model for Change {
-    ghost use Rattle.std.specs.Prelude.{◌≤◌, vec_capacity, Some, None, if◌then◌else◌};
+    ghost use Rattle.std.specs.Prelude.{◌≡◌, Some, None, if◌then◌else◌};
+    ghost use Rattle.xbgp_maps.specs.declared.limits.TheConstants.{MAX_KEY, MAX_VALUE};
     ghost use Rattle.xbgp_maps.specs.Journals.{Write};
 
     ghost Value = { Write };
 
-    ghost view = { λ c. record { map = c.map; key = c.key.items; old = if c.was_there then Some c.value.items else None } };
+    ghost view = { λ c.
+        record { map = c.map; key = c.key.octets; old = if c.was_there then Some c.value.octets else None } };
 
-    ghost invariant = { λ c. (64 ≤ vec_capacity c.key) × (256 ≤ vec_capacity c.value) };
-}
-
-// Puts octets into a vector that has room for them.
-fn refill(place: &mut Vec<u8>, octets: &[u8])
-    requires { length octets.now ≤ vec_capacity place.old }
-    ensures items { place.new.items ≡ octets.now }
-    ensures capacity { vec_capacity place.old ≤ vec_capacity place.new }
-{
-    place.clear();
-    let _ = place.extend_from_slice(octets);
+    ghost invariant = { λ c. (c.key.capacity ≡ MAX_KEY) × (c.value.capacity ≡ MAX_VALUE) };
 }
 
 impl Change {
+    // The room for a write.
     fn blank(alloc: Global) -> Result<Change, AllocError> {
         Ok(Change {
             map: 0,
-            key: Vec::with_capacity(alloc, KEY)?,
-            value: Vec::with_capacity(alloc, VALUE)?,
+            key: Buf::make(alloc, MAX_KEY as usize)?,
+            value: Buf::make(alloc, MAX_VALUE as usize)?,
             was_there: false,
         })
     }
@@ -67,6 +53,7 @@ impl Change {
         self.key.as_slice()
     }
 
+    /// The value before the write, if there was one.
     pub fn old(&self) -> Option<&[u8]>
         ensures { option_map (λ v. v.now) result ≡ self.now.old }
     {
@@ -78,37 +65,39 @@ impl Change {
     }
 
     fn fill(&mut self, map: u32, key: &[u8], old: Option<&[u8]>)
-        requires key { length key.now ≤ 64 }
-        requires old { IfSome old (λ v. length v.now ≤ 256) }
+        requires key { length key.now ≤ MAX_KEY }
+        requires old { IfSome old (λ v. length v.now ≤ MAX_VALUE) }
         ensures { self.new ≡ record { map = map; key = key.now; old = option_map (λ v. v.now) old.entry } }
     {
         self.map = map;
-        refill(&mut self.key, key);
+        self.key.replace(key);
         self.was_there = old.is_some();
-        refill(&mut self.value, old.unwrap_or(&[]));
+        self.value.replace(old.unwrap_or(&[]));
     }
 }
 
-/// The writes so far, in order. All room is there from the start.
+/// The writes so far, in order. All room is taken when it is made.
 #[derive(Drop)]
-pub struct Journal {
+pub(crate) struct Journal {
     changes: Vec<Change>,
     count: usize,
 }
 
 impl Model for Journal {
     ghost use Rattle.std.specs.Prelude.{◌≡◌, ◌≤◌, List, length, take};
+    ghost use Rattle.xbgp_maps.specs.declared.limits.TheConstants.{BUDGET};
     ghost use Rattle.xbgp_maps.specs.Journals.{Write};
 
     ghost Value = { List Write };
 
     ghost view = { λ j. take j.count j.changes.items };
 
-    ghost invariant = { λ j. (j.count ≤ 64) × (length j.changes.items ≡ 64) };
+    ghost invariant = { λ j. (j.count ≤ BUDGET) × (length j.changes.items ≡ BUDGET) };
 }
 
+// The room for all writes of a run.
 fn blanks(alloc: Global) -> Result<Vec<Change>, AllocError>
-    ensures { IfOk result (λ v. length v.items ≡ 64) }
+    ensures { IfOk result (λ v. length v.items ≡ BUDGET) }
 {
     let mut changes = Vec::new(alloc);
     'changes: for _ in 0..BUDGET {
@@ -129,14 +118,14 @@ impl Journal {
 
     pub fn len(&self) -> usize
         ensures value { result ≡ length self.now }
-        ensures bound { result ≤ budget }
+        ensures bound { result ≤ BUDGET }
     {
         self.count
     }
 
-    /// Whether no further write may stand here.
+    /// Whether the run has all its writes.
     pub fn is_spent(&self) -> bool
-        ensures { result ≡ nat_le budget (length self.now) }
+        ensures { result ≡ nat_le BUDGET (length self.now) }
     {
         self.count >= BUDGET
     }
@@ -149,10 +138,11 @@ impl Journal {
 
     /// Notes a write.
     pub fn note(&mut self, map: u32, key: &[u8], old: Option<&[u8]>)
-        requires room { length self.old < budget }
-        requires key { length key.now ≤ 64 }
-        requires old { IfSome old (λ v. length v.now ≤ 256) }
-        ensures { self.new ≡ self.old ++ record { map = map; key = key.now; old = option_map (λ v. v.now) old.entry } ∷ [] }
+        requires room { length self.old < BUDGET }
+        requires key { length key.now ≤ MAX_KEY }
+        requires old { IfSome old (λ v. length v.now ≤ MAX_VALUE) }
+        ensures { self.new
+            ≡ self.old ++ record { map = map; key = key.now; old = option_map (λ v. v.now) old.entry } ∷ [] }
     {
         self.changes[self.count].fill(map, key, old);
         self.count += 1;

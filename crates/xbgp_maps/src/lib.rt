@@ -1,17 +1,23 @@
 //! Maps of programs: finite maps from keys to values of fixed widths, which share one journal of writes.
 //!
-//! A program writes within a run. The run is closed by keeping all its writes or by undoing all of them, and at most 64 may
-//! stand in it. All memory is taken when the maps are made, so no later call asks for any. A look-up, a write, a removal and a
-//! step of a walk go down a tree once or twice, and an undo does so for each of the writes. The tree is kept balanced, and
-//! by the law `trees_are_low` it has at most 33 levels.
+//! [`Maps::make`] makes all maps at once, by their shapes, and takes all memory there, so no later call asks for any.
+//! Programs read by [`get`](Maps::get), [`shape`](Maps::shape), [`key_after`](Maps::key_after) and
+//! [`entry_after`](Maps::entry_after). They write within a run, which [`begin`](Maps::begin) opens and which is closed
+//! by keeping all its writes or by undoing all of them: the journal has each write with the value before it, at most
+//! [`BUDGET`](limits::BUDGET) of them, and `undo` goes through it from the last to the first.
 //!
-//! It stands on `xb_words` alone. `specs/Mappings` says what the maps, their limits and the answers are, in the words of finite
-//! maps. What stands below it says how they are kept: `specs/Trees` what a search tree holds and when it is balanced,
-//! `specs/Tables` that a node is in store for each further entry, and `specs/Journals` that the writes can be taken back.
+//! Each map is a balanced search tree, and the nodes for the entries that it may still get are made with it. A look-up,
+//! a write, a removal and a step of a walk go down a tree once or twice, and by the law `trees_are_low` it has at most
+//! [`MAX_LEVELS`](limits::MAX_LEVELS) levels.
+//!
+//! What a program may call, and how its calls are numbered, is not here. `specs/Mappings` says what the maps, their
+//! limits and the results are, in the words of finite maps; `specs/Trees`, `specs/Tables` and `specs/Journals` say how
+//! they are kept.
 #![tactic(auto)]
 
 mod journal;
 pub mod laws;
+pub mod limits;
 mod maps;
 mod node;
 mod shape;

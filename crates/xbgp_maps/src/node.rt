@@ -1,22 +1,25 @@
-// Nodes of a search tree, and turns that keep its two sides at heights near each other.
+// Nodes of a search tree, and the turns that keep the heights of its two sides near each other.
 ghost use Rattle.std.specs.Prelude.{◌≡◌, ◌+◌, ◌<◌, ◌≤◌, max, length, IfOk};
 ghost use Rattle.xbgp_maps.specs.declared.node.Tree.TheVariants.{Leaf};
-ghost use Rattle.xbgp_maps.specs.Trees.{entries_of, entries_below, height_of, left_of, right_of, IsAlone, IsBalanced, IsBalancedBelow, IsLow, IsMended, IsTurnedLeft, IsTurnedRight, LeansLeft, LeansRight};
+ghost use Rattle.xbgp_maps.specs.Trees.{entries_of, entries_below, height_of, left_of, right_of, IsAlone, IsBalanced};
+ghost use Rattle.xbgp_maps.specs.Trees.{IsBalancedBelow, IsLow, IsMended, IsTurnedLeft, IsTurnedRight};
+ghost use Rattle.xbgp_maps.specs.Trees.{LeansLeft, LeansRight};
 
 use std::alloc::{AllocError, Global};
 use std::mem;
+use xb_words::zeros;
 
 #[cycle(tree)]
 #[derive(Drop)]
-pub enum Tree {
+pub(crate) enum Tree {
     Leaf,
     Fork(Box<Node>),
 }
 
-/// An entry, with the trees of the entries before and behind it.
+/// An entry, with the trees of the entries before and after it.
 #[cycle(tree)]
 #[derive(Drop)]
-pub struct Node {
+pub(crate) struct Node {
     pub key: Vec<u8>,
     pub value: Vec<u8>,
     height: u8,
@@ -34,19 +37,13 @@ impl Tree {
         }
     }
 
-    /// Takes the whole tree, and leaves an empty one.
+    /// Returns the whole tree, and leaves an empty one.
     pub fn take(&mut self) -> Tree
         ensures taken { result ≡ self.old }
         ensures left { self.new ≡ Leaf }
     {
         mem::replace(self, Tree::Leaf)
     }
-}
-
-fn zeros(alloc: Global, count: usize) -> Result<Vec<u8>, AllocError>
-    ensures { IfOk result (λ v. length v.items ≡ count) }
-{
-    vec![in alloc; 0u8; count]
 }
 
 impl Node {
@@ -158,8 +155,8 @@ fn lean_right(tree: Tree) -> Tree
     }
 }
 
-/// The same entries where the heights of the sides may differ by two; then they differ by one at most.
-pub fn balanced(mut node: Box<Node>) -> Box<Node>
+/// The same entries, balanced: the heights of the sides may differ by two before, and by one after.
+pub(crate) fn balanced(mut node: Box<Node>) -> Box<Node>
     requires is_left { IsBalanced node.value.left }
     requires is_right { IsBalanced node.value.right }
     requires left { height_of node.value.left ≤ height_of node.value.right + 2 }

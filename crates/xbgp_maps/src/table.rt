@@ -1,9 +1,10 @@
-// One map: a tree of its entries, and nodes for all entries that it may have more.
-ghost use Rattle.std.specs.Prelude.{◌≡◌, ◌<◌, ◌≤◌, [], ◌∷◌, ◌++◌, length, map, nat_le, vec_capacity, None, IsSome, IfOk};
+// One map: a tree of its entries, and a spare node for each entry it has room for, so that no write takes memory.
+ghost use Rattle.std.specs.Prelude.{◌≡◌, ◌<◌, ◌≤◌, [], ◌∷◌, ◌++◌, length, map, nat_le, vec_capacity};
+ghost use Rattle.std.specs.Prelude.{None, IsSome, IfOk, IfSome};
 ghost use Rattle.std.specs.List.{AllByRecursion};
 ghost use Rattle.std.specs.Option.{option_map};
 ghost use Rattle.xb_words.specs.Table.{entry_after};
-ghost use Rattle.xbgp_maps.specs.Mappings.{key_cmp, value_in, put_in, taken_from, IsMapping};
+ghost use Rattle.xbgp_maps.specs.Mappings.{key_cmp, value_in, put_in, taken_from, HasWidths, IsMapping};
 ghost use Rattle.xbgp_maps.specs.Tables.{IsBlank};
 ghost use Rattle.xbgp_maps.specs.Trees.{IsAlone};
 
@@ -13,8 +14,9 @@ use crate::tree::{copy_over, find, first, first_after, insert, overwrite, remove
 use std::alloc::{AllocError, Global};
 use std::marker::Model;
 
+/// One map. Contracts see its shape and its entries by rising key.
 #[derive(Drop)]
-pub struct Table {
+pub(crate) struct Table {
     shape: MapShape,
     root: Tree,
     spare: Vec<Box<Node>>,
@@ -30,7 +32,9 @@ impl Model for Table {
 
     ghost view = { λ t. record { shape = t.shape; entries = entries_of t.root } };
 
-    ghost invariant = { λ t. IsTable (record { shape = t.shape; entries = entries_of t.root }) (map (λ n. n.value) t.spare.items) (vec_capacity t.spare) × IsBalanced t.root };
+    ghost invariant = { λ t.
+        let m : Mapping = record { shape = t.shape; entries = entries_of t.root } in
+        IsTable m (map (λ n. n.value) t.spare.items) (vec_capacity t.spare) × IsBalanced t.root };
 }
 
 // Nodes for all entries of a map.
@@ -61,7 +65,7 @@ fn filled(mut node: Box<Node>, key: &[u8], value: &[u8]) -> Box<Node>
     node
 }
 
-// Keeps one node more, for which there is room.
+// Keeps one more spare node, for which there is room.
 fn keep(spare: &mut Vec<Box<Node>>, node: Box<Node>)
     requires { length spare.old.items < vec_capacity spare.old }
     ensures items { spare.new.items ≡ spare.old.items ++ node ∷ [] }
@@ -71,6 +75,7 @@ fn keep(spare: &mut Vec<Box<Node>>, node: Box<Node>)
 }
 
 impl Table {
+    /// A map without entries.
     pub fn make(alloc: Global, shape: MapShape) -> Result<Table, AllocError>
         ensures { IfOk result (λ t. t ≡ record { shape = shape; entries = [] }) }
     {
@@ -81,8 +86,15 @@ impl Table {
         })
     }
 
+    pub fn shape(&self) -> MapShape
+        ensures { result ≡ self.now.shape }
+    {
+        self.shape
+    }
+
     pub fn get(&self, key: &[u8]) -> Option<&[u8]>
         ensures value { option_map (λ v. v.now) result ≡ value_in self.now key.now }
+        ensures width { IfSome result (λ v. length v.now ≡ self.now.shape.value) }
         ensures kept { IsMapping self.now }
     {
         find(&self.root, key)
@@ -95,7 +107,7 @@ impl Table {
         self.spare.is_empty()
     }
 
-    /// Writes over a value that is there.
+    /// Replaces a value that is there.
     pub fn overwrite(&mut self, key: &[u8], value: &[u8])
         requires there { IsSome (value_in self.old key.now) }
         requires width { length value.now ≡ self.old.shape.value }
@@ -104,7 +116,7 @@ impl Table {
         overwrite(&mut self.root, key, value);
     }
 
-    /// Enters a new key.
+    /// Writes a new key.
     pub fn insert(&mut self, key: &[u8], value: &[u8])
         requires absent { value_in self.old key.now ≡ None }
         requires room { length self.old.entries < self.old.shape.entries }
@@ -117,7 +129,7 @@ impl Table {
         }
     }
 
-    /// Enters a value, whether or not the key is there.
+    /// Writes a value, whether or not the key is there.
     pub fn put(&mut self, key: &[u8], value: &[u8])
         requires room { value_in self.old key.now ≡ None → length self.old.entries < self.old.shape.entries }
         requires key { length key.now ≡ self.old.shape.key }
@@ -131,6 +143,7 @@ impl Table {
         }
     }
 
+    /// Removes a key, if it is there.
     pub fn remove(&mut self, key: &[u8])
         ensures { self.new ≡ taken_from self.old key.now }
     {
@@ -139,8 +152,11 @@ impl Table {
         }
     }
 
-    pub fn key_after(&self, after: Option<&[u8]>) -> Option<&[u8]>
-        ensures key { option_map (λ k. k.now) result ≡ option_map (λ e. e.0) (entry_after key_cmp self.now.entries (option_map (λ k. k.now) after.entry)) }
+    /// The first entry after a key, or the first of all.
+    pub fn entry_after(&self, after: Option<&[u8]>) -> Option<(&[u8], &[u8])>
+        ensures entry { option_map (λ e. (e.0.now, e.1.now)) result
+            ≡ entry_after key_cmp self.now.entries (option_map (λ k. k.now) after.entry) }
+        ensures widths { IfSome result (λ e. HasWidths self.now.shape (e.0.now, e.1.now)) }
         ensures kept { IsMapping self.now }
     {
         match after {

@@ -1,6 +1,7 @@
 ghost use Rattle.std.specs.Prelude.{◌≡◌, ◌≤◌, [], ◌∷◌, map, IsSome, IfOk};
 ghost use Rattle.xbgp_maps.specs.Mappings.{shapes_of};
 
+use crate::limits::{BUDGET, MAX_ENTRIES, MAX_KEY, MAX_VALUE};
 use crate::{MapShape, Maps, Put, Remove};
 use std::alloc::{AllocError, Global};
 use std::test::Fail;
@@ -8,7 +9,7 @@ use std::test::Fail;
 // One map of keys and values of one octet, in which a run is open.
 fn opened(alloc: Global, entries: u32) -> Result<Maps, AllocError>
     requires least { 1 ≤ entries }
-    requires most { entries ≤ 65536 }
+    requires most { entries ≤ MAX_ENTRIES }
     ensures open { IfOk result (λ j. IsSome j.began) }
     ensures keys { IfOk result (λ j. map (λ s. s.key) (shapes_of j.maps) ≡ 1 ∷ []) }
     ensures values { IfOk result (λ j. map (λ s. s.value) (shapes_of j.maps) ≡ 1 ∷ []) }
@@ -23,7 +24,7 @@ fn opened(alloc: Global, entries: u32) -> Result<Maps, AllocError>
     Ok(maps)
 }
 
-#[tactic(auto, using(crate::proofs::Shapes::there))]
+#[tactic(auto, using(crate::proofs::MappingsLemmas::map_is_there))]
 fn put(maps: &mut Maps, key: u8, value: u8) -> Put
     requires open { IsSome maps.old.began }
     requires keys { map (λ s. s.key) (shapes_of maps.old.maps) ≡ 1 ∷ [] }
@@ -35,7 +36,7 @@ fn put(maps: &mut Maps, key: u8, value: u8) -> Put
     maps.put(0, &[key], &[value])
 }
 
-#[tactic(auto, using(crate::proofs::Shapes::there))]
+#[tactic(auto, using(crate::proofs::MappingsLemmas::map_is_there))]
 fn remove(maps: &mut Maps, key: u8) -> Remove
     requires open { IsSome maps.old.began }
     requires keys { map (λ s. s.key) (shapes_of maps.old.maps) ≡ 1 ∷ [] }
@@ -48,7 +49,7 @@ fn remove(maps: &mut Maps, key: u8) -> Remove
 }
 
 // The first octet of the value at a key.
-#[tactic(auto, using(crate::proofs::Shapes::there))]
+#[tactic(auto, using(crate::proofs::MappingsLemmas::map_is_there))]
 fn value(maps: &Maps, key: u8) -> Option<u8>
     requires keys { map (λ s. s.key) (shapes_of maps.now.maps) ≡ 1 ∷ [] }
     requires values { map (λ s. s.value) (shapes_of maps.now.maps) ≡ 1 ∷ [] }
@@ -59,6 +60,11 @@ fn value(maps: &Maps, key: u8) -> Option<u8>
 // The first octet of the next key.
 fn key_after(maps: &Maps, after: &[u8]) -> Option<u8> {
     maps.key_after(0, Some(after))?.first().copied()
+}
+
+// The first octet of the next entry's value.
+fn value_after(maps: &Maps, after: &[u8]) -> Option<u8> {
+    maps.entry_after(0, Some(after))?.1.first().copied()
 }
 
 #[test]
@@ -79,9 +85,9 @@ fn full_map_takes_no_new_key(rt: HostRuntime) -> Result<(), Fail> {
 }
 
 #[test]
-fn sixty_four_writes_stand_in_a_run(rt: HostRuntime) -> Result<(), Fail> {
+fn a_run_has_at_most_its_budget_of_writes(rt: HostRuntime) -> Result<(), Fail> {
     let mut maps = opened(rt.alloc(), 1)?;
-    'writes: for n in 0u8..64 {
+    'writes: for n in 0..BUDGET as u8 {
         assert_eq!(rt; put(&mut maps, 1, n), Put::Done);
     }
     assert_eq!(rt; put(&mut maps, 1, 64), Put::Budget);
@@ -106,11 +112,14 @@ fn keys_are_walked_in_order_of_octets(rt: HostRuntime) -> Result<(), Fail> {
     assert_eq!(rt; key_after(&maps, &[90]), Some(200));
     assert_eq!(rt; key_after(&maps, &[200]), None);
     assert_eq!(rt; maps.key_after(1, None), None);
+    assert_eq!(rt; value_after(&maps, &[3]), Some(3));
+    assert_eq!(rt; maps.shape(0).map(|shape| shape.entries), Some(3));
+    assert!(rt; maps.shape(1).is_none());
     Ok(())
 }
 
 #[test]
-fn undo_gives_back_what_stood_at_begin(rt: HostRuntime) -> Result<(), Fail> {
+fn undo_gives_back_the_maps_at_begin(rt: HostRuntime) -> Result<(), Fail> {
     let mut maps = opened(rt.alloc(), 2)?;
     assert_eq!(rt; put(&mut maps, 1, 10), Put::Done);
     assert_eq!(rt; put(&mut maps, 2, 20), Put::Done);
@@ -132,9 +141,9 @@ fn undo_gives_back_what_stood_at_begin(rt: HostRuntime) -> Result<(), Fail> {
 #[test]
 fn widest_maps_are_made(rt: HostRuntime) -> Result<(), Fail> {
     let wide = MapShape {
-        key: 64,
-        value: 256,
-        entries: 65536,
+        key: MAX_KEY as u16,
+        value: MAX_VALUE as u16,
+        entries: MAX_ENTRIES,
     };
     let maps = Maps::make(rt.alloc(), &[wide])?;
     assert_eq!(rt; maps.key_after(0, None), None);

@@ -1,16 +1,18 @@
-// A search tree of entries by rising key: look-ups, writes and removals, each by one way down.
+// A search tree of entries by rising key: look-ups, writes and removals, each by one way down. A node that is removed
+// is handed out whole and a new entry comes as a node, so no call here takes memory.
 ghost use Rattle.std.specs.Prelude.{◌≡◌, ◌+◌, ◌≤◌, ◌∷◌, ◌++◌, length, max, None, Some, IsSome};
 ghost use Rattle.std.specs.Option.{option_map};
-ghost use Rattle.xb_words.specs.Table.{entry_after, first_of as first_entry, value_at, with_value, without, IsRising};
+ghost use Rattle.xb_words.specs.Table.{entry_after, first_of, value_at, with_value, without, IsRising};
 ghost use Rattle.xbgp_maps.specs.Mappings.{key_cmp};
-ghost use Rattle.xbgp_maps.specs.Trees.{entries_of, entries_below, entry_of, height_of, HaveWidth, IsAlone, IsBalanced, IsBalancedBelow, IsLow, IsNext, IsTaken};
+ghost use Rattle.xbgp_maps.specs.Trees.{entries_of, entries_below, entry_of, height_of, HaveWidth, IsAlone};
+ghost use Rattle.xbgp_maps.specs.Trees.{IsBalanced, IsBalancedBelow, IsLow, IsSameOrOneMore, IsTaken};
 
 use crate::node::{Node, Tree, balanced};
 use std::cmp::Ordering;
 
 /// The value at a key.
-#[tactic(auto, using(crate::proofs::Trees::look_up))]
-pub fn find<'t>(tree: &'t Tree, key: &[u8]) -> Option<&'t [u8]>
+#[tactic(auto, using(crate::proofs::TreesLemmas::look_up))]
+pub(crate) fn find<'t>(tree: &'t Tree, key: &[u8]) -> Option<&'t [u8]>
     requires { IsRising key_cmp (entries_of tree.now) }
     ensures { option_map (λ v. v.now) result ≡ value_at key_cmp (entries_of tree.now) key.now }
 {
@@ -27,28 +29,35 @@ pub fn find<'t>(tree: &'t Tree, key: &[u8]) -> Option<&'t [u8]>
     }
 }
 
-/// The least key.
-#[tactic(auto, using(crate::proofs::Trees::walk))]
-pub fn first(tree: &Tree) -> Option<&[u8]>
-    ensures { option_map (λ k. k.now) result ≡ option_map (λ e. e.0) (first_entry (entries_of tree.now)) }
+// The key and the value of a node.
+fn entry(node: &Node) -> (&[u8], &[u8])
+    ensures { (result.0.now, result.1.now) ≡ entry_of node.now }
+{
+    (node.key.as_slice(), node.value.as_slice())
+}
+
+/// The entry of the least key.
+#[tactic(auto, using(crate::proofs::TreesLemmas::walk))]
+pub(crate) fn first(tree: &Tree) -> Option<(&[u8], &[u8])>
+    ensures { option_map (λ e. (e.0.now, e.1.now)) result ≡ first_of (entries_of tree.now) }
 {
     match tree {
         Tree::Leaf => None,
         Tree::Fork(node) => {
             let node = &**node;
             match first(&node.left) {
-                None => Some(node.key.as_slice()),
+                None => Some(entry(node)),
                 found => found,
             }
         }
     }
 }
 
-/// The least key that is greater than this one.
-#[tactic(auto, using(crate::proofs::Trees::walk))]
-pub fn first_after<'t>(tree: &'t Tree, key: &[u8]) -> Option<&'t [u8]>
+/// The entry of the least key that is greater than this one.
+#[tactic(auto, using(crate::proofs::TreesLemmas::walk))]
+pub(crate) fn first_after<'t>(tree: &'t Tree, key: &[u8]) -> Option<(&'t [u8], &'t [u8])>
     requires { IsRising key_cmp (entries_of tree.now) }
-    ensures { option_map (λ k. k.now) result ≡ option_map (λ e. e.0) (entry_after key_cmp (entries_of tree.now) (Some key.now)) }
+    ensures { option_map (λ e. (e.0.now, e.1.now)) result ≡ entry_after key_cmp (entries_of tree.now) (Some key.now) }
 {
     match tree {
         Tree::Leaf => None,
@@ -56,7 +65,7 @@ pub fn first_after<'t>(tree: &'t Tree, key: &[u8]) -> Option<&'t [u8]>
             let node = &**node;
             match key.cmp(&node.key.as_slice()) {
                 Ordering::Less => match first_after(&node.left, key) {
-                    None => Some(node.key.as_slice()),
+                    None => Some(entry(node)),
                     found => found,
                 },
                 _ => first_after(&node.right, key),
@@ -65,17 +74,17 @@ pub fn first_after<'t>(tree: &'t Tree, key: &[u8]) -> Option<&'t [u8]>
     }
 }
 
-/// Puts octets in the place of as many.
-pub fn copy_over(place: &mut Vec<u8>, octets: &[u8])
-    requires { length place.old.items ≡ length octets.now }
-    ensures { place.new.items ≡ octets.now }
+/// Overwrites octets with others of the same length.
+pub(crate) fn copy_over(octets: &mut Vec<u8>, others: &[u8])
+    requires { length octets.old.items ≡ length others.now }
+    ensures { octets.new.items ≡ others.now }
 {
-    place.as_mut_slice().copy_from_slice(octets);
+    octets.as_mut_slice().copy_from_slice(others);
 }
 
-/// Writes over the value at a key that is there.
-#[tactic(auto, using(crate::proofs::Trees::write))]
-pub fn overwrite(tree: &mut Tree, key: &[u8], value: &[u8])
+/// Replaces the value at a key that is there.
+#[tactic(auto, using(crate::proofs::TreesLemmas::write))]
+pub(crate) fn overwrite(tree: &mut Tree, key: &[u8], value: &[u8])
     requires rising { IsRising key_cmp (entries_of tree.old) }
     requires widths { HaveWidth (length value.now) (entries_of tree.old) }
     requires there { IsSome (value_at key_cmp (entries_of tree.old) key.now) }
@@ -94,19 +103,21 @@ pub fn overwrite(tree: &mut Tree, key: &[u8], value: &[u8])
     }
 }
 
-#[tactic(auto, using(crate::proofs::Trees::write))]
+// The tree with one more node.
+#[tactic(auto, using(crate::proofs::TreesLemmas::write))]
 fn with_node(tree: Tree, new: Box<Node>) -> Tree
     requires rising { IsRising key_cmp (entries_of tree) }
     requires alone { IsAlone new.value }
     requires absent { value_at key_cmp (entries_of tree) new.value.key.items ≡ None }
     requires balanced { IsBalanced tree }
     requires low { IsLow (height_of tree) }
-    ensures entries { entries_of result ≡ with_value key_cmp (entries_of tree) new.value.key.items new.value.value.items }
+    ensures entries { entries_of result
+        ≡ with_value key_cmp (entries_of tree) new.value.key.items new.value.value.items }
     ensures balanced { IsBalanced result }
-    ensures height { IsNext (height_of tree) (height_of result) }
+    ensures height { IsSameOrOneMore (height_of tree) (height_of result) }
 {
     match tree {
-        // it has the height of its last place still
+        // the node still has the height it had before it was removed
         Tree::Leaf => Tree::Fork(balanced(new)),
         Tree::Fork(mut node) => {
             match new.key.as_slice().cmp(&node.key.as_slice()) {
@@ -123,27 +134,28 @@ fn with_node(tree: Tree, new: Box<Node>) -> Tree
     }
 }
 
-/// Puts in a node that is alone, at a key that is not there.
-pub fn insert(tree: &mut Tree, new: Box<Node>)
+/// Inserts a node that is alone, at a key that is not there.
+pub(crate) fn insert(tree: &mut Tree, new: Box<Node>)
     requires rising { IsRising key_cmp (entries_of tree.old) }
     requires alone { IsAlone new.value }
     requires absent { value_at key_cmp (entries_of tree.old) new.value.key.items ≡ None }
     requires balanced { IsBalanced tree.old }
     requires low { IsLow (height_of tree.old) }
-    ensures entries { entries_of tree.new ≡ with_value key_cmp (entries_of tree.old) new.value.key.items new.value.value.items }
+    ensures entries { entries_of tree.new
+        ≡ with_value key_cmp (entries_of tree.old) new.value.key.items new.value.value.items }
     ensures balanced { IsBalanced tree.new }
 {
     *tree = with_node(tree.take(), new);
 }
 
-// Takes the node of the least key out, which then is alone.
+// Removes the node of the least key, which then is alone, and returns it with the rest.
 fn without_least(mut top: Box<Node>) -> (Box<Node>, Tree)
     requires balanced { IsBalancedBelow top.value }
     requires low { IsLow top.value.height }
     ensures entries { entries_below top.value ≡ entry_of result.0.value ∷ entries_of result.1 }
     ensures alone { IsAlone result.0.value }
     ensures balanced { IsBalanced result.1 }
-    ensures height { IsNext (height_of result.1) top.value.height }
+    ensures height { IsSameOrOneMore (height_of result.1) top.value.height }
 {
     match top.left.take() {
         Tree::Leaf => {
@@ -158,7 +170,7 @@ fn without_least(mut top: Box<Node>) -> (Box<Node>, Tree)
     }
 }
 
-// One tree of two, where all keys of the first are below those of the second.
+// One tree of two: all keys of the first are below those of the second.
 fn joined(left: Tree, right: Tree) -> Tree
     requires is_left { IsBalanced left }
     requires is_right { IsBalanced right }
@@ -167,7 +179,7 @@ fn joined(left: Tree, right: Tree) -> Tree
     requires low { IsLow (height_of left) × IsLow (height_of right) }
     ensures entries { entries_of result ≡ entries_of left ++ entries_of right }
     ensures balanced { IsBalanced result }
-    ensures height { IsNext (max (height_of left) (height_of right)) (height_of result) }
+    ensures height { IsSameOrOneMore (max (height_of left) (height_of right)) (height_of result) }
 {
     match right {
         Tree::Leaf => left,
@@ -180,14 +192,15 @@ fn joined(left: Tree, right: Tree) -> Tree
     }
 }
 
-#[tactic(auto, using(crate::proofs::Trees::removal))]
+// The tree without a key, and the node that had it.
+#[tactic(auto, using(crate::proofs::TreesLemmas::removal))]
 fn without_node(tree: Tree, key: &[u8]) -> (Tree, Option<Box<Node>>)
     requires rising { IsRising key_cmp (entries_of tree) }
     requires balanced { IsBalanced tree }
     requires low { IsLow (height_of tree) }
     ensures entries { entries_of result.0 ≡ without key_cmp (entries_of tree) key.now }
     ensures balanced { IsBalanced result.0 }
-    ensures height { IsNext (height_of result.0) (height_of tree) }
+    ensures height { IsSameOrOneMore (height_of result.0) (height_of tree) }
     ensures taken { IsTaken (entries_of tree) key.now (option_map (λ n. n.value) result.1) }
 {
     match tree {
@@ -212,8 +225,8 @@ fn without_node(tree: Tree, key: &[u8]) -> (Tree, Option<Box<Node>>)
     }
 }
 
-/// Takes the node at a key out, if there is one; then it is alone.
-pub fn remove(tree: &mut Tree, key: &[u8]) -> Option<Box<Node>>
+/// Removes the node at a key and returns it, alone, if there is one.
+pub(crate) fn remove(tree: &mut Tree, key: &[u8]) -> Option<Box<Node>>
     requires rising { IsRising key_cmp (entries_of tree.old) }
     requires balanced { IsBalanced tree.old }
     requires low { IsLow (height_of tree.old) }

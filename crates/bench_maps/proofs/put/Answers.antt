@@ -1,13 +1,13 @@
 use Rattle.std.proofs.Common.{◌≡◌, length, rules}
-use Rattle.xbgp_maps.proofs.Shapes.{fits}
+use Rattle.xbgp_maps.proofs.MappingsLemmas.{width_of_map_0}
 use Rattle.bench_maps.proofs.put.Goals as goal
 
 pub put-requires-clause-key : goal.put-requires-clause-key
 put-requires-clause-key c =
     let width : length c.key_of.result ≡ 8 = search rules in
-    rw width (fits c.args.bench.now.maps.maps (λ s. s.key) 8 c.args.bench.now.keys)
+    rw width (width_of_map_0 c.args.bench.now.maps.maps (λ s. s.key) 8 c.args.bench.now.keys)
 
 pub put-requires-clause-value : goal.put-requires-clause-value
 put-requires-clause-value c =
     let width : length c.value_of.result ≡ 16 = search rules in
-    rw width (fits c.args.bench.now.maps.maps (λ s. s.value) 16 c.args.bench.now.values)
+    rw width (width_of_map_0 c.args.bench.now.maps.maps (λ s. s.value) 16 c.args.bench.now.values)

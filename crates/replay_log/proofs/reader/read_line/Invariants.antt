@@ -1,6 +1,7 @@
 use Rattle.std.proofs.Common.{◌≡◌, ℕ, ◌+◌, ◌-◌, ◌≤◌, List, length, Some}
 use Rattle.xb_io.specs.Causes.{told_file}
 use Rattle.replay_log.specs.Readings.{next_at}
+use Rattle.replay_log.specs.declared.limits.TheConstants.{LINE_LIMIT, LOG_LIMIT}
 use Rattle.replay_log.proofs.ReadingLemmas.{left_at}
 use Rattle.replay_log.proofs.reader.read_line.Given as goal
 
@@ -9,12 +10,12 @@ abbrev pub invariant-octets : goal.invariant-octets
 invariant-octets g l = record {
   held : g.S.Shelf.held l.shelf ≡ g.S.Shelf.held l.fn.shelf;
   faults : g.S.Shelf.faults l.shelf ≡ g.S.Shelf.faults l.fn.shelf;
-  left : (log : List ℕ) → told_file (g.S.Shelf.held l.fn.shelf) l.name ≡ Some log → left_at l.place l.line.octets log ≡ next_at log l.start;
-  moved : l.place ≡ l.start + length l.line.octets;
-  place : l.place ≤ 67108864;
-  short : length l.line.octets ≤ 8400;
-  room : l.line.capacity ≡ 8400;
+  left : (log : List ℕ) → told_file (g.S.Shelf.held l.fn.shelf) l.name ≡ Some log → left_at l.at l.line.octets log ≡ next_at log l.start;
+  moved : l.at ≡ l.start + length l.line.octets;
+  within : l.at ≤ LOG_LIMIT;
+  short : length l.line.octets ≤ LINE_LIMIT;
+  room : l.line.capacity ≡ LINE_LIMIT;
 }
 
 abbrev pub decreases-octets : goal.decreases-octets
-decreases-octets g l = 8400 - length l.line.octets
+decreases-octets g l = LINE_LIMIT - length l.line.octets

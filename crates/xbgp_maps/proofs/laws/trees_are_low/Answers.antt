@@ -1,5 +1,5 @@
-use Rattle.xbgp_maps.proofs.Heights.{few_levels}
+use Rattle.xbgp_maps.proofs.HeightLemmas.{height_of-bound}
 use Rattle.xbgp_maps.proofs.laws.trees_are_low.Goals as goal
 
 pub returns : goal.returns
-returns c = λ tree balanced few. few_levels tree balanced few
+returns c = λ tree balanced few. height_of-bound tree balanced few

@@ -1,4 +1,4 @@
-use Rattle.xbgp_maps.proofs.Journals.{undoable_empty}
+use Rattle.xbgp_maps.proofs.JournalsLemmas.{undoable_empty}
 use Rattle.xbgp_maps.proofs.maps.Maps.make.Goals as goal
 
 pub invariant_of-result : goal.invariant_of-result

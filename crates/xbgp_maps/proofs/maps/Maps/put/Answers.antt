@@ -1,8 +1,8 @@
 use Rattle.std.proofs.Common.{◌≡◌, ◌<◌, length, Some, true, refl}
 use Rattle.std.specs.List.{slice_get}
 use Rattle.std.proofs.lemmas.Option.{slice_get_read}
-use Rattle.xbgp_maps.specs.Journals.{seen}
-use Rattle.xbgp_maps.proofs.Journals.{is_opened, put_undoable, put_seen, put_shapes, began_after_put}
+use Rattle.xbgp_maps.specs.Journals.{journal_view}
+use Rattle.xbgp_maps.proofs.JournalsLemmas.{is_opened, put_undoable, put_seen, put_shapes, began_after_put}
 use Rattle.xbgp_maps.proofs.maps.Maps.put.Goals as goal
 
 pub invariant_of-self : goal.invariant_of-self
@@ -35,7 +35,7 @@ returns-clause-began c =
     let bound : c.args.map < length c.self.inside.tables.items = rw (← c.self.view_is) at c.requires.map in
     let there : slice_get c.self.inside.tables.items c.args.map ≡ Some m = slice_get_read c.self.inside.tables.items _ c.args.map m refl bound c.index_mut-table.ensures.value in
     let opened : c.self.inside.is_open ≡ true = is_opened c.self.inside.is_open _ (rw (← c.self.view_is) at c.requires.open) in
-    rw (← c.self.view_is) (began_after_put (seen c.self.inside.is_open c.self.inside.journal c.self.inside.tables.items) _ c.args.map m c.args.key.now c.args.value.now c.write.result (put_seen c.self.inside.is_open c.self.inside.journal _ c.self.inside.tables.items c.args.map m _ c.args.key.now c.args.value.now c.write.result opened there c.write.ensures.kept c.write.ensures.table c.write.ensures.journal))
+    rw (← c.self.view_is) (began_after_put (journal_view c.self.inside.is_open c.self.inside.journal c.self.inside.tables.items) _ c.args.map m c.args.key.now c.args.value.now c.write.result (put_seen c.self.inside.is_open c.self.inside.journal _ c.self.inside.tables.items c.args.map m _ c.args.key.now c.args.value.now c.write.result opened there c.write.ensures.kept c.write.ensures.table c.write.ensures.journal))
 
 pub returns-clause-shapes : goal.returns-clause-shapes
 returns-clause-shapes c =

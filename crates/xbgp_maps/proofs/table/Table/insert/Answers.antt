@@ -2,8 +2,8 @@ use Rattle.std.proofs.Common.{rules, ◌≡◌, length, None, sym, ◌∙◌}
 use Rattle.xbgp_maps.specs.Mappings.{Mapping, value_in}
 use Rattle.xbgp_maps.specs.Tables.{IsBlank}
 use Rattle.xbgp_maps.specs.Trees.{entries_of}
-use Rattle.xbgp_maps.proofs.Heights.{is_low}
-use Rattle.xbgp_maps.proofs.Tables.{table_new, all_last}
+use Rattle.xbgp_maps.proofs.HeightLemmas.{IsLow-height_of}
+use Rattle.xbgp_maps.proofs.TablesLemmas.{table_new, all_last}
 use Rattle.xbgp_maps.proofs.table.Table.insert.Goals as goal
 
 pub filled-requires-clause-key : goal.filled-requires-clause-key
@@ -31,4 +31,4 @@ invariant_of-self c =
     (rw (c.insert.ensures.entries, c.filled.ensures.key, c.filled.ensures.value) (table_new (λ b. b.value) m c.self.inside.spare.items c.pop.new.self.items c.in-Some.node _ _ c.args.key.now c.args.value.now c.self.invariant.0 c.in-Some.ensures.items c.in-Some.ensures.capacity absent key value), c.insert.ensures.balanced)
 
 pub insert-requires-clause-low : goal.insert-requires-clause-low
-insert-requires-clause-low c = is_low c.self.inside.root c.self.inside.shape.entries c.self.invariant.1 c.self.invariant.0.kept.room (search rules)
+insert-requires-clause-low c = IsLow-height_of c.self.inside.root c.self.inside.shape.entries c.self.invariant.1 c.self.invariant.0.kept.room (search rules)

@@ -1,5 +1,5 @@
 use Rattle.std.proofs.lemmas.List.{length-map}
-use Rattle.xbgp_maps.proofs.Tables.{table_empty}
+use Rattle.xbgp_maps.proofs.TablesLemmas.{table_empty}
 use Rattle.xbgp_maps.proofs.table.Table.make.Goals as goal
 
 pub invariant_of-result : goal.invariant_of-result

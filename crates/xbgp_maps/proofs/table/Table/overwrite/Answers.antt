@@ -1,7 +1,7 @@
 use Rattle.std.proofs.Common.{◌≡◌, length, IsSome}
 use Rattle.xbgp_maps.specs.Mappings.{Mapping, value_in}
 use Rattle.xbgp_maps.specs.Trees.{entries_of}
-use Rattle.xbgp_maps.proofs.Tables.{table_over}
+use Rattle.xbgp_maps.proofs.TablesLemmas.{table_over}
 use Rattle.xbgp_maps.proofs.table.Table.overwrite.Goals as goal
 
 pub invariant_of-self : goal.invariant_of-self

@@ -2,8 +2,8 @@ use Rattle.std.proofs.Common.{rules, map, Some}
 use Rattle.std.proofs.lemmas.List.{length-map}
 use Rattle.xbgp_maps.specs.Mappings.{Mapping}
 use Rattle.xbgp_maps.specs.Trees.{entries_of, IsTaken}
-use Rattle.xbgp_maps.proofs.Heights.{is_low}
-use Rattle.xbgp_maps.proofs.Tables.{table_gone, table_absent, spare_below}
+use Rattle.xbgp_maps.proofs.HeightLemmas.{IsLow-height_of}
+use Rattle.xbgp_maps.proofs.TablesLemmas.{table_gone, table_absent, spare_below}
 use Rattle.xbgp_maps.proofs.table.Table.remove.Goals as goal
 
 pub keep-requires : goal.keep-requires
@@ -24,4 +24,4 @@ invariant_of-self-in_default c =
     (rw c.remove.ensures.entries (table_absent m _ _ c.args.key.now c.self.invariant.0 c.in_default.ensures.taken), c.remove.ensures.balanced)
 
 pub remove-requires-clause-low : goal.remove-requires-clause-low
-remove-requires-clause-low c = is_low c.self.inside.root c.self.inside.shape.entries c.self.invariant.1 c.self.invariant.0.kept.room (search rules)
+remove-requires-clause-low c = IsLow-height_of c.self.inside.root c.self.inside.shape.entries c.self.invariant.1 c.self.invariant.0.kept.room (search rules)
