@@ -20,5 +20,6 @@ pub use prefix::Prefix;
 pub use reader::{read_decimal, read_dotted, read_prefix, split_once};
 pub use steps::{Brand, Steps};
 pub use text::{
-    append_decimal, append_hex, append_prefix, push_decimal, push_dotted, push_hex, push_prefix,
+    MAX_DECIMAL, MAX_PREFIX_TEXT, append_decimal, append_hex, append_prefix, push_decimal,
+    push_dotted, push_hex, push_prefix,
 };
