@@ -2,10 +2,10 @@
 //!
 //! The expected values are worked out here from the text of RFC 9669, in whole numbers with signs that are cut to their width
 //! at the end; nothing is shared with the machine. Section 4.1 has arithmetic, 4.2 the conversions, 4.3 jumps, 5 memory.
-//! Where the RFC leaves it open, the least number divided by -1 gives itself, and memory is little-endian.
+//! What the RFC leaves open: the least number divided by -1 gives itself, and memory is little-endian.
 //!
-//! A line `code HEX NAME` gives the slots that follow two 64-bit loads, which put X into r0 and Y into r2. The lines `X Y WANT`
-//! behind it say what r0 is at EXIT, in hexadecimal, or `fault` where a load or a store is outside memory.
+//! A line `code HEX NAME` gives the slots that follow two 64-bit loads, of X into r0 and of Y into r2. The lines
+//! `X Y WANT` after it say what r0 is at EXIT, in hexadecimal, or `fault` if a load or a store is outside memory.
 //!
 //! `bench/test_machine/run` shows that the table of crates/test_machine is the one that this program writes.
 
@@ -345,7 +345,7 @@ fn add_conversions(table: &mut Table) {
     }
 }
 
-/// A jump by two slots: r0 is 1 where it was taken, and 0 where it wasn't.
+/// A jump by two slots: r0 is 1 if it was taken, and 0 if it was not.
 fn jump(first: Slot) -> [Slot; 5] {
     [
         first,
@@ -418,7 +418,7 @@ fn add_ends_and_wide_loads(table: &mut Table) {
     }
 }
 
-/// Helper 1 adds r1 and r2. Behind it r1 to r5 are 0, and r6 is what it was.
+/// Helper 1 adds r1 and r2. After it r1 to r5 are 0, and r6 is what it was.
 fn add_calls(table: &mut Table) {
     for added in 1..=6 {
         let slots = [
@@ -440,7 +440,7 @@ fn add_calls(table: &mut Table) {
     }
 }
 
-/// Where a number of some octets may stand within eight: at both ends, and one octet in.
+/// The offsets of a number of some octets within eight: at both ends, and one octet in.
 fn places(size: usize) -> Vec<usize> {
     if size == 8 {
         vec![0]
@@ -457,7 +457,7 @@ fn number_of(octets: &[u8]) -> u64 {
         .fold(0, |sum, octet| sum * 256 + u64::from(*octet))
 }
 
-/// Puts Y into the last eight octets of the stack.
+/// Writes Y into the last eight octets of the stack.
 const KEEP: Slot = slot(0x7b, 10, 2, -8, 0);
 
 /// Section 5: loads from the last eight octets of the stack.
@@ -477,7 +477,7 @@ fn add_loads_from(table: &mut Table, mode: u8, bits: u8, size: usize, title: &st
     }
 }
 
-/// Loads outside memory, and loads one below r0, where the sum of base and offset may wrap.
+/// Loads outside memory, and loads one below r0: the sum of base and offset may wrap.
 fn add_loads_outside(table: &mut Table, opcode: u8, size: usize, name: &str) {
     let beyond = slot(opcode, 0, 10, 1 - size as i16, 0);
     table.add(

@@ -1,7 +1,5 @@
-//! Runs the program of a file so many times over, with fuel for 1,000,000 instructions and a few more, and prints how the
-//! last run ended. It is the program that bench/exec measures; the words are TIMES and FILE.
-//!
-//! It stands on `bpf_machine`, `bpf_mem` and `bpf_insn`, and promises nothing beyond being safe.
+//! Runs the program of a file TIMES times, with fuel for 1,000,000 instructions and a few more, and prints how the last
+//! run ended. The words are TIMES and FILE. bench/exec measures this program. It promises nothing except to be safe.
 #![tactic(auto)]
 
 use bpf_insn::{Code, HelperSet, load};
@@ -14,13 +12,13 @@ use std::{env, fs, io};
 // Fuel for each run.
 const FUEL: u32 = 1_000_100;
 
-/// A world that takes every call for misuse. Code that was loaded without helpers makes none.
+// A world in which every call is a misuse. Code that was loaded without helpers calls none.
 #[derive(Drop)]
 struct Nothing;
 
 impl Helpers for Nothing {
     ghost use Rattle.std.specs.Prelude.{true};
-    ghost use Rattle.bpf_machine.specs.Running.{Answered};
+    ghost use Rattle.bpf_machine.specs.Running.{CallResult};
     ghost use Rattle.bpf_machine.specs.declared.world.Called.TheVariants.{Misuse};
 
     ghost State = { Unit {0} };
@@ -30,6 +28,10 @@ impl Helpers for Nothing {
     ghost allowed = { λ _ _. true };
 
     ghost helps = { λ _ _ memory world. record { called = Misuse; memory = memory; world = world } };
+
+    ghost Names = { Unit {0} };
+
+    ghost names = { λ _. tt };
 
     fn call(&mut self, _number: u32, _args: [u64; 5], _memory: &mut Memory<'_>) -> Called {
         Called::Misuse

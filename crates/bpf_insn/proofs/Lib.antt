@@ -1,3 +1,3 @@
-pub mod Sets
-pub mod Starts
-pub mod Faults
+pub mod HelperLemmas
+pub mod SecondLemmas
+pub mod LoadLemmas

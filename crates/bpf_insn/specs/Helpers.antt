@@ -1,4 +1,4 @@
--- Sets of helpers.
+-- Sets of helpers, which are this project's own.
 use Rattle.std.specs.Prelude.{ℕ, Bool, false, slice_index_or}
 use Rattle.bpf_insn.specs.declared.helpers.HelperSet.{HelperSet}
 

@@ -1,42 +1,42 @@
-// Why bytecode is refused.
+// The reasons to refuse bytecode.
 ghost use Rattle.std.specs.Prelude.{◌≡◌};
 
 use std::alloc::AllocError;
 use thiserror::Error;
 
-/// What is wrong with bytecode, in the order in which it is looked for.
+/// What is wrong with bytecode. Of one instruction's faults the first in this order is reported.
 #[derive(Clone, Copy, Debug, PartialEq, Eq)]
 pub enum LoadKind {
-    /// No octets, or no whole slots.
+    /// There are no octets, or the last slot isn't whole.
     Length,
-    /// More than 4,096 slots.
+    /// There are more than `MAX_SLOTS` slots.
     TooLong,
-    /// No opcode of the profile.
+    /// The opcode isn't one of the profile's.
     Opcode,
-    /// A register over r10.
+    /// A register is above r10.
     Register,
-    /// A field that the form doesn't use isn't 0, or a field has a value that isn't listed.
+    /// A field that the form doesn't use isn't 0, or a field has a value that the form doesn't list.
     Reserved,
-    /// A 64-bit load without a second slot, or with other fields than the immediate in it.
+    /// A 64-bit load has no second slot, or one with other fields than the immediate.
     WidePair,
-    /// A jump to where no instruction begins.
+    /// No instruction begins at the target of a jump.
     Jump,
-    /// A write to r10.
+    /// The instruction writes r10.
     WriteR10,
-    /// A call of a helper that isn't allowed, by its number.
+    /// The helper of this number is called, and isn't allowed.
     Helper(u32),
     /// The last instruction is neither EXIT nor JA.
     OpenEnd,
 }
 
-/// What is wrong with bytecode, and at which slot.
+/// What is wrong with bytecode, and at which slot, from 0. A fault of the length is at slot 0.
 #[derive(Clone, Copy, Debug, PartialEq, Eq)]
 pub struct LoadFault {
     pub kind: LoadKind,
     pub slot: u32,
 }
 
-/// Why bytecode wasn't loaded.
+/// Why bytecode wasn't loaded: a want of memory, or its first fault.
 #[derive(Clone, Copy, Debug, PartialEq, Eq, Error)]
 pub enum LoadError {
     #[error("out of memory")]

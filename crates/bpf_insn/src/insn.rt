@@ -1,6 +1,7 @@
 // One instruction.
 
-/// The fields of one instruction. The immediate is sign-extended, or the whole number of a 64-bit load.
+/// The fields of one instruction. `dst` and `src` are registers, 0 to 10. `imm` is the immediate extended by its sign,
+/// or the whole number of a 64-bit load.
 #[derive(Clone, Copy, Debug, PartialEq, Eq)]
 pub struct Insn {
     pub opcode: u8,

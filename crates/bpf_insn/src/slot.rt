@@ -1,7 +1,9 @@
-// One slot as it stands.
+// One slot, undecoded (RFC 9669, section 3.1).
 ghost use Rattle.std.specs.Prelude.{◌≡◌, ◌+◌, ◌*◌, ◌≤◌, length};
 
-/// The fields of a slot, the offset and the immediate without a sign.
+use crate::limits::SLOT_SIZE;
+
+// The fields of a slot, little-endian; the offset and the immediate are without a sign.
 #[derive(Clone, Copy)]
 pub(crate) struct Slot {
     pub opcode: u8,
@@ -14,16 +16,16 @@ pub(crate) struct Slot {
 impl Slot {
     ghost use Rattle.bpf_insn.specs.Slots.{opcode_of, dst_of, src_of, raw_offset, raw_imm};
 
-    /// Reads slot i of some code.
+    // Reads slot i, from 0.
     pub(crate) fn read(code: &[u8], i: usize) -> Slot
-        requires { 8 * i + 8 ≤ length code.now }
+        requires { SLOT_SIZE * i + SLOT_SIZE ≤ length code.now }
         ensures opcode { result.opcode ≡ opcode_of code.now i }
         ensures dst { result.dst ≡ dst_of code.now i }
         ensures src { result.src ≡ src_of code.now i }
         ensures offset { result.offset ≡ raw_offset code.now i }
         ensures imm { result.imm ≡ raw_imm code.now i }
     {
-        let at = 8 * i;
+        let at = SLOT_SIZE * i;
         let registers = code[at + 1];
         Slot {
             opcode: code[at],

@@ -3,12 +3,12 @@ use super::*;
 use std::alloc::Global;
 use std::test::Fail;
 
-const EXIT: [u8; 8] = [0x95, 0, 0, 0, 0, 0, 0, 0];
+const EXIT_SLOT: [u8; 8] = [0x95, 0, 0, 0, 0, 0, 0, 0];
 
-/// The fault of a slot with EXIT behind it, where code may call helper 10.
+// The fault of a slot before EXIT, if code may call helper 10.
 fn fault(alloc: Global, slot: [u8; 8]) -> Result<Option<LoadFault>, Fail> {
     let mut code = Vec::from_slice(alloc, &slot)?;
-    code.extend_from_slice(&EXIT)?;
+    code.extend_from_slice(&EXIT_SLOT)?;
     match load(alloc, &code, &HelperSet::none().with(10)) {
         Ok(_) => Ok(None),
         Err(LoadError::Bad(fault)) => Ok(Some(fault)),
@@ -26,10 +26,10 @@ fn code_is_read_back(rt: HostRuntime) -> Result<(), Fail> {
         0x18, 0, 0, 0, 0xff, 0xff, 0xff, 0xff, 0, 0, 0, 0, 1, 0, 0, 0,
     ];
     let mut octets = Vec::from_slice(rt.alloc(), &wide)?;
-    octets.extend_from_slice(&EXIT)?;
+    octets.extend_from_slice(&EXIT_SLOT)?;
     let code = load(rt.alloc(), &octets, &HelperSet::none())?;
     assert_eq!(rt; code.slots(), 3);
-    assert_eq!(rt; code.slot(2), EXIT);
+    assert_eq!(rt; code.slot(2), EXIT_SLOT);
     let first = code.at(0);
     assert_eq!(rt;
         first,

@@ -1,6 +1,7 @@
-pub mod Signs
-pub mod Stepping
-pub mod Following
-pub mod Turns
+pub mod WordLemmas
+pub mod StepLemmas
+pub mod FollowLemmas
+pub mod RunLemmas
 pub mod FuelLemmas
-mod Rows
+pub mod WorldLemmas
+mod RunExamples

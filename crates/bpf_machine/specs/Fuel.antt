@@ -1,29 +1,29 @@
--- What stands behind so many instructions of a run, so that it can be said what fuel decides.
+-- The state after a number of instructions of a run, which says what fuel decides.
 use Rattle.std.specs.Prelude.{ℕ, zero, suc, List, Option, Some, None, option_and_then}
 use Rattle.bpf_machine.specs.declared.world.Called.{Called}
 use Rattle.bpf_machine.specs.declared.world.Called.TheVariants as called
-use Rattle.bpf_machine.specs.Steps.{Machine, Did, goes, ends, faults, asks, insn, returned}
-use Rattle.bpf_machine.specs.Running.{Answered, Helps}
+use Rattle.bpf_machine.specs.Steps.{Machine, Did, goes, ends, faults, calls, take_step, returned}
+use Rattle.bpf_machine.specs.Running.{CallResult, Helps}
 
 -- a machine, and a world
 abbrev pub State : Type 0 → Type 0
 State W = Machine × W
 
--- what stands behind a call, where the helper's answer doesn't end the program
-abbrev pub behind_call : {W : Type 0} → Machine → Answered W → Called → Option (State W)
-behind_call m a (called.Value n) = Some (returned m a.memory n, a.world)
-behind_call m a called.Next = None
-behind_call m a called.Misuse = None
+-- the state after a call, unless the helper's result ends the program
+abbrev pub call_state : {W : Type 0} → Machine → CallResult W → Called → Option (State W)
+call_state m a (called.Value n) = Some (returned m a.memory n, a.world)
+call_state m a called.Next = None
+call_state m a called.Misuse = None
 
 module _ {W : Type 0} (help : Helps W) (code : List ℕ) where
-  -- what stands behind an instruction that doesn't end the program
-  abbrev pub behind : Machine → W → Did → Option (State W)
-  behind m w (goes next) = Some (next, w)
-  behind m w (ends n) = None
-  behind m w faults = None
-  behind m w (asks number args) = let a = help number args m.memory w in behind_call m a a.called
+  -- the state after an instruction, unless it ends the program
+  abbrev pub step_state : Machine → W → Did → Option (State W)
+  step_state m w (goes next) = Some (next, w)
+  step_state m w (ends n) = None
+  step_state m w faults = None
+  step_state m w (calls number args) = let a = help number args m.memory w in call_state m a a.called
 
-  -- what stands behind n instructions, where none of them ended the program
-  unfoldable pub after : ℕ → Machine → W → Option (State W)
-  after zero m w = Some (m, w)
-  after (suc n) m w = option_and_then (λ s. after n s.0 s.1) (behind m w (insn code m))
+  -- the state after n instructions, unless one of them ended the program
+  unfoldable pub state_after : ℕ → Machine → W → Option (State W)
+  state_after zero m w = Some (m, w)
+  state_after (suc n) m w = option_and_then (λ s. state_after n s.0 s.1) (step_state m w (take_step code m))

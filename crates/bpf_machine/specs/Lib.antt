@@ -3,3 +3,4 @@ pub mod Steps
 pub mod Does
 pub mod Running
 pub mod Fuel
+pub mod Worlds

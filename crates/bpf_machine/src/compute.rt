@@ -1,22 +1,22 @@
-// What arithmetic gives, and which comparisons hold.
+// The results of arithmetic and of loads, and which comparisons hold.
 ghost use Rattle.std.specs.Prelude.{◌≡◌};
-ghost use Rattle.bpf_mem.specs.Memory.{IsSize};
-ghost use Rattle.bpf_machine.specs.Words.{low, moved, result_of, holds, converted};
-ghost use Rattle.bpf_machine.specs.Steps.{computed, is_taken, size_of, loaded};
+ghost use Rattle.bpf_mem.specs.Memory.{IsAccessSize};
+ghost use Rattle.bpf_machine.specs.Words.{low, moved, result_of, comparison_holds, converted};
+ghost use Rattle.bpf_machine.specs.Steps.{computed, is_taken, access_size, load_result};
 
-use crate::codes::{
-    ADD, AND, DIV, END, JEQ, JGE, JGT, JLE, JLT, JNE, JSET, JSGE, JSGT, JSLT, LSH, MOD, MOV, MUL,
-    NEG, OR, RSH, SUB, XOR,
-};
 use crate::words::{
     extended_8, extended_16, extended_32, is_below_32, is_below_64, low_32, low_bits, offset_word,
     shifted_signed_32, shifted_signed_64, short_8, short_16, signed_quotient_32,
-    signed_quotient_64, signed_remainder_32, signed_remainder_64, turned_round,
+    signed_quotient_64, signed_remainder_32, signed_remainder_64, swapped_octets,
 };
 use bpf_insn::Insn;
-use bpf_insn::forms::{class, code_of};
+use bpf_insn::forms::{class, operation};
+use bpf_insn::opcodes::{
+    ADD, ALU64, AND, B, DIV, END, END_LE, H, JEQ, JGE, JGT, JLE, JLT, JMP, JNE, JSET, JSGE, JSGT,
+    JSLT, LSH, MEMSX, MOD, MOV, MUL, NEG, OR, RSH, SUB, W, XOR,
+};
 
-/// What MOV gives in 64 bits.
+// The result of MOV in 64 bits.
 fn moved_64(offset: u64, y: u64) -> u64
     ensures { result ≡ moved 64 offset y }
 {
@@ -28,7 +28,7 @@ fn moved_64(offset: u64, y: u64) -> u64
     }
 }
 
-/// What MOV gives in 32 bits.
+// The result of MOV in 32 bits.
 fn moved_32(offset: u64, y: u32) -> u32
     ensures { result ≡ moved 32 offset y }
 {
@@ -39,10 +39,10 @@ fn moved_32(offset: u64, y: u32) -> u32
     }
 }
 
-/// A quotient of 64 bits, with or without signs.
+// A quotient of 64 bits, with or without signs.
 #[tactic(auto, unfolding(crate::specs::Words::result_of))]
 fn quotient_64(offset: u64, x: u64, y: u64) -> u64
-    ensures { result ≡ result_of 64 3 offset x y }
+    ensures { result ≡ result_of 64 DIV offset x y }
 {
     if offset == 1 {
         signed_quotient_64(x, y)
@@ -53,10 +53,10 @@ fn quotient_64(offset: u64, x: u64, y: u64) -> u64
     }
 }
 
-/// A quotient of 32 bits, with or without signs.
+// A quotient of 32 bits, with or without signs.
 #[tactic(auto, unfolding(crate::specs::Words::result_of))]
 fn quotient_32(offset: u64, x: u32, y: u32) -> u32
-    ensures { result ≡ result_of 32 3 offset x y }
+    ensures { result ≡ result_of 32 DIV offset x y }
 {
     if offset == 1 {
         signed_quotient_32(x, y)
@@ -67,10 +67,10 @@ fn quotient_32(offset: u64, x: u32, y: u32) -> u32
     }
 }
 
-/// A remainder of 64 bits, with or without signs.
+// A remainder of 64 bits, with or without signs.
 #[tactic(auto, unfolding(crate::specs::Words::result_of))]
 fn remainder_64(offset: u64, x: u64, y: u64) -> u64
-    ensures { result ≡ result_of 64 9 offset x y }
+    ensures { result ≡ result_of 64 MOD offset x y }
 {
     if offset == 1 {
         signed_remainder_64(x, y)
@@ -81,10 +81,10 @@ fn remainder_64(offset: u64, x: u64, y: u64) -> u64
     }
 }
 
-/// A remainder of 32 bits, with or without signs.
+// A remainder of 32 bits, with or without signs.
 #[tactic(auto, unfolding(crate::specs::Words::result_of))]
 fn remainder_32(offset: u64, x: u32, y: u32) -> u32
-    ensures { result ≡ result_of 32 9 offset x y }
+    ensures { result ≡ result_of 32 MOD offset x y }
 {
     if offset == 1 {
         signed_remainder_32(x, y)
@@ -95,12 +95,12 @@ fn remainder_32(offset: u64, x: u32, y: u32) -> u32
     }
 }
 
-/// What an operation gives in 64 bits; the last one is ARSH.
+// The result of an operation in 64 bits; the last one is ARSH.
 #[tactic(auto, unfolding(crate::specs::Words::result_of))]
-fn result_64(code: u8, offset: u64, x: u64, y: u64) -> u64
-    ensures { result ≡ result_of 64 code offset x y }
+fn result_64(operation: u8, offset: u64, x: u64, y: u64) -> u64
+    ensures { result ≡ result_of 64 operation offset x y }
 {
-    match code {
+    match operation {
         ADD => x.wrapping_add(y),
         SUB => x.wrapping_sub(y),
         MUL => x.wrapping_mul(y),
@@ -117,12 +117,12 @@ fn result_64(code: u8, offset: u64, x: u64, y: u64) -> u64
     }
 }
 
-/// What an operation gives in 32 bits; the last one is ARSH.
+// The result of an operation in 32 bits; the last one is ARSH.
 #[tactic(auto, unfolding(crate::specs::Words::result_of))]
-fn result_32(code: u8, offset: u64, x: u32, y: u32) -> u32
-    ensures { result ≡ result_of 32 code offset x y }
+fn result_32(operation: u8, offset: u64, x: u32, y: u32) -> u32
+    ensures { result ≡ result_of 32 operation offset x y }
 {
-    match code {
+    match operation {
         ADD => x.wrapping_add(y),
         SUB => x.wrapping_sub(y),
         MUL => x.wrapping_mul(y),
@@ -139,48 +139,48 @@ fn result_32(code: u8, offset: u64, x: u32, y: u32) -> u32
     }
 }
 
-/// What END gives.
+// The result of END.
 #[tactic(auto, unfolding(crate::specs::Words::converted))]
 fn converted(opcode: u8, bits: u32, x: u64) -> u64
     ensures { result ≡ converted opcode bits x }
 {
-    if opcode == 0xd4 {
+    if opcode == END_LE {
         low_bits(bits, x)
     } else {
-        turned_round(bits, x)
+        swapped_octets(bits, x)
     }
 }
 
-/// What an operation gives of the low 32 bits, in 64.
-fn result_low(code: u8, offset: u64, x: u64, y: u64) -> u64
-    ensures { result ≡ result_of 32 code offset (low 32 x) (low 32 y) }
+// The result of an operation on the low 32 bits, in 64; the upper 32 bits are 0.
+fn result_low(operation: u8, offset: u64, x: u64, y: u64) -> u64
+    ensures { result ≡ result_of 32 operation offset (low 32 x) (low 32 y) }
 {
-    u64::from(result_32(code, offset, low_32(x), low_32(y)))
+    u64::from(result_32(operation, offset, low_32(x), low_32(y)))
 }
 
-/// What arithmetic gives its destination, from what that has and the second operand.
+// The result of arithmetic on the destination and the second operand.
 #[tactic(auto, unfolding(crate::specs::Steps::computed))]
 pub(crate) fn computed(insn: Insn, x: u64, y: u64) -> u64
     ensures { result ≡ computed insn x y }
 {
-    let code = code_of(insn.opcode);
-    if code == END {
+    let operation = operation(insn.opcode);
+    if operation == END {
         return converted(insn.opcode, low_32(insn.imm), x);
     }
     let offset = offset_word(insn);
-    if class(insn.opcode) == 7 {
-        result_64(code, offset, x, y)
+    if class(insn.opcode) == ALU64 {
+        result_64(operation, offset, x, y)
     } else {
-        result_low(code, offset, x, y)
+        result_low(operation, offset, x, y)
     }
 }
 
-/// Whether a comparison of 64 bits holds; the last one is JSLE.
-#[tactic(auto, unfolding(crate::specs::Words::holds))]
-fn holds_64(code: u8, x: u64, y: u64) -> bool
-    ensures { result ≡ holds 64 code x y }
+// Whether a comparison of 64 bits holds; the last one is JSLE.
+#[tactic(auto, unfolding(crate::specs::Words::comparison_holds))]
+fn comparison_64(operation: u8, x: u64, y: u64) -> bool
+    ensures { result ≡ comparison_holds 64 operation x y }
 {
-    match code {
+    match operation {
         JEQ => x == y,
         JGT => x > y,
         JGE => x >= y,
@@ -195,12 +195,12 @@ fn holds_64(code: u8, x: u64, y: u64) -> bool
     }
 }
 
-/// Whether a comparison of 32 bits holds; the last one is JSLE.
-#[tactic(auto, unfolding(crate::specs::Words::holds))]
-fn holds_32(code: u8, x: u32, y: u32) -> bool
-    ensures { result ≡ holds 32 code x y }
+// Whether a comparison of 32 bits holds; the last one is JSLE.
+#[tactic(auto, unfolding(crate::specs::Words::comparison_holds))]
+fn comparison_32(operation: u8, x: u32, y: u32) -> bool
+    ensures { result ≡ comparison_holds 32 operation x y }
 {
-    match code {
+    match operation {
         JEQ => x == y,
         JGT => x > y,
         JGE => x >= y,
@@ -215,41 +215,41 @@ fn holds_32(code: u8, x: u32, y: u32) -> bool
     }
 }
 
-/// Whether a conditional jump is taken.
+// Whether a conditional jump is taken.
 #[tactic(auto, unfolding(crate::specs::Steps::is_taken))]
 pub(crate) fn is_taken(insn: Insn, x: u64, y: u64) -> bool
     ensures { result ≡ is_taken insn x y }
 {
-    let code = code_of(insn.opcode);
-    if class(insn.opcode) == 5 {
-        holds_64(code, x, y)
+    let operation = operation(insn.opcode);
+    if class(insn.opcode) == JMP {
+        comparison_64(operation, x, y)
     } else {
-        holds_32(code, low_32(x), low_32(y))
+        comparison_32(operation, low_32(x), low_32(y))
     }
 }
 
-/// How many octets a load or a store has: W, H, B, DW.
-pub(crate) fn size_of(opcode: u8) -> usize
-    ensures value { result ≡ size_of opcode }
-    ensures size { IsSize result }
+// The number of octets of a load or a store.
+pub(crate) fn access_size(opcode: u8) -> usize
+    ensures value { result ≡ access_size opcode }
+    ensures size { IsAccessSize result }
 {
     match opcode / 8 % 4 {
-        0 => 4,
-        1 => 2,
-        2 => 1,
+        W => 4,
+        H => 2,
+        B => 1,
         _ => 8,
     }
 }
 
-/// What a load gives its destination, from the number that it found.
-#[tactic(auto, unfolding(crate::specs::Steps::loaded))]
-pub(crate) fn loaded(opcode: u8, n: u64) -> u64
-    ensures { result ≡ loaded opcode n }
+// The result of a load of a number.
+#[tactic(auto, unfolding(crate::specs::Steps::load_result))]
+pub(crate) fn load_result(opcode: u8, n: u64) -> u64
+    ensures { result ≡ load_result opcode n }
 {
-    if opcode / 32 != 4 {
+    if opcode / 32 != MEMSX {
         return n;
     }
-    match size_of(opcode) {
+    match access_size(opcode) {
         1 => extended_8(n),
         2 => extended_16(n),
         _ => extended_32(n),

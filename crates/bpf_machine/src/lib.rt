@@ -1,15 +1,20 @@
 //! The machine that runs BPF bytecode (RFC 9669).
 //!
-//! `run` takes one instruction after another of code that the loader accepted, decodes it from the code's octets, and
-//! does it on eleven registers and a program's memory, until the program ends or its fuel is used up. What a program may
-//! call is up to the caller: a world implements `Helpers`, and `run` is proved for every one that keeps its contract.
-//! Nothing is allocated.
+//! `run` takes code that the loader accepted, a program's memory, a world and fuel. It starts at slot 0 and takes one
+//! instruction after another: it decodes the instruction from the code's octets (`Code::at`) and does it on eleven
+//! registers and the memory. The run ends when the program exits, when a helper says so, when an access is outside
+//! memory, or when the fuel is used up; one instruction costs one unit. Nothing is allocated, and since execution never
+//! leaves accepted code, the machine has no checks of its own except those of memory.
 //!
-//! It stands on `bpf_insn` for the code and on `bpf_mem` for the memory. `specs/Words` has the arithmetic, `specs/Steps` one
-//! instruction, `specs/Running` a run, `specs/Fuel` what stands behind so many instructions.
+//! Which helpers a program may call, and what they do, is up to the caller: a world implements `Helpers`, and `run` is
+//! proved for each world that keeps the contract of that trait. A world may borrow what it writes; `names` says that
+//! it still holds the same references after a call and after a run.
+//!
+//! `step` does one instruction, `compute` arithmetic and comparisons, `words` the arithmetic with signs. In specs/,
+//! `Words` defines arithmetic, `Steps` one instruction, `Running` a run, `Fuel` and `Worlds` the words of `laws`. This
+//! crate uses bpf_insn for the code and bpf_mem for the memory.
 #![tactic(auto)]
 
-mod codes;
 mod compute;
 pub mod laws;
 mod running;

@@ -1,4 +1,4 @@
-// Worked programs, in a world of three helpers.
+// Worked programs, in a world with three helpers.
 ghost use Rattle.std.specs.Prelude.{◌≡◌, ℕ, ◌==◌, ◌||◌};
 ghost use Rattle.bpf_insn.specs.Helpers.{allows};
 
@@ -8,7 +8,7 @@ use bpf_mem::{Memory, Room};
 use std::alloc::Global;
 use std::test::Fail;
 
-/// Helper 1 adds r1 and r2 and is counted, helper 2 hands over, helper 3 takes nothing.
+// Helper 1 adds r1 and r2 and is counted, helper 2 passes on to the next program, helper 3 takes no arguments.
 #[derive(Drop)]
 struct Sums {
     calls: u64,
@@ -16,18 +16,28 @@ struct Sums {
 
 impl Helpers for Sums {
     ghost use Rattle.std.specs.Prelude.{ℕ, ◌+◌, ◌%◌, ◌^◌, ◌==◌, ◌||◌, if◌then◌else◌, slice_index};
-    ghost use Rattle.bpf_machine.specs.Running.{Answered};
+    ghost use Rattle.bpf_machine.specs.Running.{CallResult};
     ghost use Rattle.bpf_machine.specs.declared.world.Called.TheVariants.{Value, Next, Misuse};
 
     ghost State = { ℕ };
 
     ghost state = { λ s. s.calls };
 
+    ghost Names = { Unit {0} };
+
+    ghost names = { λ _. tt };
+
     ghost allowed = { λ _ n. n == 1 || (n == 2 || n == 3) };
 
     ghost helps = { λ n args memory calls.
-        if n == 1 then record { called = Value ((slice_index args 0 + slice_index args 1) % 2 ^ 64); memory = memory; world = (calls + 1) % 2 ^ 64 }
-        else (if n == 2 then record { called = Next; memory = memory; world = calls } else record { called = Misuse; memory = memory; world = calls }) };
+        if n == 1
+        then record {
+          called = Value ((slice_index args 0 + slice_index args 1) % 2 ^ 64);
+          memory = memory;
+          world = (calls + 1) % 2 ^ 64;
+        }
+        else (let called = if n == 2 then Next else Misuse in
+        record { called = called; memory = memory; world = calls }) };
 
     fn call(&mut self, number: u32, args: [u64; 5], _memory: &mut Memory<'_>) -> Called {
         match number {
@@ -41,14 +51,14 @@ impl Helpers for Sums {
     }
 }
 
-/// The helpers that a world of sums has.
+// The helpers that a world of sums allows.
 fn helpers() -> HelperSet
     ensures { (n : ℕ) → allows result n ≡ (n == 1 || (n == 2 || n == 3)) }
 {
     HelperSet::none().with(3).with(2).with(1)
 }
 
-/// How a program ends over a window of three octets, and how many sums it asked for.
+// How a program ends over a window of three octets, and the number of its calls of helper 1.
 fn ran(alloc: Global, octets: &[u8], fuel: u32) -> Result<(End, u64), Fail> {
     let code = load(alloc, octets, &helpers())?;
     let mut room = Room::make(alloc)?;
@@ -58,7 +68,7 @@ fn ran(alloc: Global, octets: &[u8], fuel: u32) -> Result<(End, u64), Fail> {
     Ok((end, world.calls))
 }
 
-const EXIT: [u8; 8] = [0x95, 0, 0, 0, 0, 0, 0, 0];
+const EXIT_SLOT: [u8; 8] = [0x95, 0, 0, 0, 0, 0, 0, 0];
 
 #[test]
 fn programs_end_as_worked_out(rt: HostRuntime) -> Result<(), Fail> {
@@ -71,14 +81,22 @@ fn programs_end_as_worked_out(rt: HostRuntime) -> Result<(), Fail> {
     let window_len = [0xbf, 0x20, 0, 0, 0, 0, 0, 0];
     let failed = |cause: Cause| End::Failed(cause);
     for (slots, fuel, end) in [
-        ([seven, EXIT, EXIT], 2, End::Exit(7)),
-        ([seven, EXIT, EXIT], 1, failed(Cause::Fuel)),
-        ([minus_one, remainder, EXIT], 100, End::Exit(4294967295)),
-        ([spin, EXIT, EXIT], 100, failed(Cause::Fuel)),
-        ([load_at_0, EXIT, EXIT], 100, failed(Cause::Memory)),
-        ([load_at_0, EXIT, EXIT], 1, failed(Cause::Memory)),
-        ([window_len, EXIT, EXIT], 100, End::Exit(3)),
-        ([EXIT, EXIT, EXIT], 0, failed(Cause::Fuel)),
+        ([seven, EXIT_SLOT, EXIT_SLOT], 2, End::Exit(7)),
+        ([seven, EXIT_SLOT, EXIT_SLOT], 1, failed(Cause::Fuel)),
+        (
+            [minus_one, remainder, EXIT_SLOT],
+            100,
+            End::Exit(4294967295),
+        ),
+        ([spin, EXIT_SLOT, EXIT_SLOT], 100, failed(Cause::Fuel)),
+        (
+            [load_at_0, EXIT_SLOT, EXIT_SLOT],
+            100,
+            failed(Cause::Memory),
+        ),
+        ([load_at_0, EXIT_SLOT, EXIT_SLOT], 1, failed(Cause::Memory)),
+        ([window_len, EXIT_SLOT, EXIT_SLOT], 100, End::Exit(3)),
+        ([EXIT_SLOT, EXIT_SLOT, EXIT_SLOT], 0, failed(Cause::Fuel)),
     ] {
         let [a, b, c] = slots;
         let mut code = Vec::from_slice(alloc, &a)?;
@@ -90,7 +108,7 @@ fn programs_end_as_worked_out(rt: HostRuntime) -> Result<(), Fail> {
 }
 
 #[test]
-fn helpers_are_asked_and_their_registers_cleared(rt: HostRuntime) -> Result<(), Fail> {
+fn helpers_are_called_and_their_registers_cleared(rt: HostRuntime) -> Result<(), Fail> {
     let alloc = rt.alloc();
     let mut code = Vec::from_slice(alloc, &[0xb7, 1, 0, 0, 30, 0, 0, 0])?;
     code.extend_from_slice(&[0xb7, 2, 0, 0, 4, 0, 0, 0])?;
@@ -98,11 +116,11 @@ fn helpers_are_asked_and_their_registers_cleared(rt: HostRuntime) -> Result<(), 
     for register in 1_u8..6 {
         code.extend_from_slice(&[0x0f, register * 16, 0, 0, 0, 0, 0, 0])?;
     }
-    code.extend_from_slice(&EXIT)?;
+    code.extend_from_slice(&EXIT_SLOT)?;
     assert_eq!(rt; ran(alloc, &code, 9)?, (End::Exit(34), 1));
     for (number, end) in [(2, End::Next), (3, End::Failed(Cause::Misuse))] {
         let mut code = Vec::from_slice(alloc, &[0x85, 0, 0, 0, number, 0, 0, 0])?;
-        code.extend_from_slice(&EXIT)?;
+        code.extend_from_slice(&EXIT_SLOT)?;
         assert_eq!(rt; ran(alloc, &code, 1)?, (end, 0), "at {number}");
     }
     Ok(())
@@ -111,8 +129,10 @@ fn helpers_are_asked_and_their_registers_cleared(rt: HostRuntime) -> Result<(), 
 #[test]
 fn more_fuel_changes_no_end_that_came_before(rt: HostRuntime) -> Result<(), Fail> {
     laws::fuel_decides::<Sums>();
+    laws::run_keeps::<Sums>();
+    laws::run_shows::<Sums, Sums>();
     let mut code = Vec::from_slice(rt.alloc(), &[0xb7, 0, 0, 0, 7, 0, 0, 0])?;
-    code.extend_from_slice(&EXIT)?;
+    code.extend_from_slice(&EXIT_SLOT)?;
     for fuel in [2, 3, u32::MAX] {
         assert_eq!(rt;
             ran(rt.alloc(), &code, fuel)?.0,

@@ -1,67 +1,67 @@
 // Arithmetic with signs, and the parts of words.
 ghost use Rattle.std.specs.Prelude.{◌≡◌, ◌<◌, ◌%◌, ◌^◌};
 ghost use Rattle.bpf_insn.specs.Slots.{word};
-ghost use Rattle.bpf_machine.specs.Words.{low, extended, signed_quotient, signed_remainder, shifted_signed, is_below, low_bits, turned_round};
+ghost use Rattle.bpf_machine.specs.Words.{low, extended, signed_quotient, signed_remainder, shifted_signed, is_below, low_bits, swapped_octets};
 
 use bpf_insn::Insn;
 
-/// The low 8 bits.
+// The low 8 bits.
 pub(crate) fn low_8(n: u64) -> u8
     ensures { result ≡ low 8 n }
 {
     (n % 0x100) as u8
 }
 
-/// The low 16 bits.
+// The low 16 bits.
 pub(crate) fn low_16(n: u64) -> u16
     ensures { result ≡ low 16 n }
 {
     (n % 0x1_0000) as u16
 }
 
-/// The low 32 bits.
+// The low 32 bits.
 pub(crate) fn low_32(n: u64) -> u32
     ensures { result ≡ low 32 n }
 {
     (n % 0x1_0000_0000) as u32
 }
 
-/// The low 8 bits with their sign, in 64.
+// The low 8 bits with their sign, in 64.
 pub(crate) fn extended_8(n: u64) -> u64
     ensures { result ≡ extended 8 64 n }
 {
     i64::from(low_8(n).cast_signed()).cast_unsigned()
 }
 
-/// The low 16 bits with their sign, in 64.
+// The low 16 bits with their sign, in 64.
 pub(crate) fn extended_16(n: u64) -> u64
     ensures { result ≡ extended 16 64 n }
 {
     i64::from(low_16(n).cast_signed()).cast_unsigned()
 }
 
-/// The low 32 bits with their sign, in 64.
+// The low 32 bits with their sign, in 64.
 pub(crate) fn extended_32(n: u64) -> u64
     ensures { result ≡ extended 32 64 n }
 {
     i64::from(low_32(n).cast_signed()).cast_unsigned()
 }
 
-/// The low 8 bits with their sign, in 32.
+// The low 8 bits with their sign, in 32.
 pub(crate) fn short_8(n: u32) -> u32
     ensures { result ≡ extended 8 32 n }
 {
     i32::from(low_8(u64::from(n)).cast_signed()).cast_unsigned()
 }
 
-/// The low 16 bits with their sign, in 32.
+// The low 16 bits with their sign, in 32.
 pub(crate) fn short_16(n: u32) -> u32
     ensures { result ≡ extended 16 32 n }
 {
     i32::from(low_16(u64::from(n)).cast_signed()).cast_unsigned()
 }
 
-/// A signed quotient of 64 bits.
+// A signed quotient of 64 bits.
 pub(crate) fn signed_quotient_64(x: u64, y: u64) -> u64
     ensures { result ≡ signed_quotient 64 x y }
 {
@@ -73,7 +73,7 @@ pub(crate) fn signed_quotient_64(x: u64, y: u64) -> u64
         .cast_unsigned()
 }
 
-/// A signed quotient of 32 bits.
+// A signed quotient of 32 bits.
 pub(crate) fn signed_quotient_32(x: u32, y: u32) -> u32
     ensures { result ≡ signed_quotient 32 x y }
 {
@@ -85,7 +85,7 @@ pub(crate) fn signed_quotient_32(x: u32, y: u32) -> u32
         .cast_unsigned()
 }
 
-/// A signed remainder of 64 bits.
+// A signed remainder of 64 bits.
 pub(crate) fn signed_remainder_64(x: u64, y: u64) -> u64
     ensures { result ≡ signed_remainder 64 x y }
 {
@@ -97,7 +97,7 @@ pub(crate) fn signed_remainder_64(x: u64, y: u64) -> u64
         .cast_unsigned()
 }
 
-/// A signed remainder of 32 bits.
+// A signed remainder of 32 bits.
 pub(crate) fn signed_remainder_32(x: u32, y: u32) -> u32
     ensures { result ≡ signed_remainder 32 x y }
 {
@@ -109,7 +109,7 @@ pub(crate) fn signed_remainder_32(x: u32, y: u32) -> u32
         .cast_unsigned()
 }
 
-/// A shift of 64 bits that keeps the sign.
+// A shift of 64 bits that keeps the sign.
 pub(crate) fn shifted_signed_64(x: u64, k: u64) -> u64
     requires { k < 64 }
     ensures { result ≡ shifted_signed 64 x k }
@@ -117,7 +117,7 @@ pub(crate) fn shifted_signed_64(x: u64, k: u64) -> u64
     (x.cast_signed() >> k).cast_unsigned()
 }
 
-/// A shift of 32 bits that keeps the sign.
+// A shift of 32 bits that keeps the sign.
 pub(crate) fn shifted_signed_32(x: u32, k: u32) -> u32
     requires { k < 32 }
     ensures { result ≡ shifted_signed 32 x k }
@@ -125,21 +125,21 @@ pub(crate) fn shifted_signed_32(x: u32, k: u32) -> u32
     (x.cast_signed() >> k).cast_unsigned()
 }
 
-/// Whether one number of 64 bits is below another, with their signs.
+// Whether one number of 64 bits is below another, with their signs.
 pub(crate) fn is_below_64(x: u64, y: u64) -> bool
     ensures { result ≡ is_below 64 x y }
 {
     x.cast_signed() < y.cast_signed()
 }
 
-/// Whether one number of 32 bits is below another, with their signs.
+// Whether one number of 32 bits is below another, with their signs.
 pub(crate) fn is_below_32(x: u32, y: u32) -> bool
     ensures { result ≡ is_below 32 x y }
 {
     x.cast_signed() < y.cast_signed()
 }
 
-/// The low 16, 32 or 64 bits.
+// The low 16, 32 or 64 bits.
 pub(crate) fn low_bits(bits: u32, x: u64) -> u64
     ensures { result ≡ low_bits bits x }
 {
@@ -150,9 +150,9 @@ pub(crate) fn low_bits(bits: u32, x: u64) -> u64
     }
 }
 
-/// The low 16, 32 or 64 bits with their octets in the other order.
-pub(crate) fn turned_round(bits: u32, x: u64) -> u64
-    ensures { result ≡ turned_round bits x }
+// The low 16, 32 or 64 bits with their octets in the other order.
+pub(crate) fn swapped_octets(bits: u32, x: u64) -> u64
+    ensures { result ≡ swapped_octets bits x }
 {
     match bits {
         16 => u64::from(low_16(x).swap_bytes()),
@@ -161,7 +161,7 @@ pub(crate) fn turned_round(bits: u32, x: u64) -> u64
     }
 }
 
-/// An offset with its sign, in 64 bits.
+// An offset with its sign, in 64 bits.
 pub(crate) fn offset_word(insn: Insn) -> u64
     ensures { result ≡ word insn.offset }
 {

@@ -1,3 +1,3 @@
-pub mod Parts
-pub mod LowFirst
-pub mod Rooms
+pub mod PartLemmas
+pub mod NumberLemmas
+pub mod OffsetLemmas

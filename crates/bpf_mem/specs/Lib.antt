@@ -1,3 +1,3 @@
 pub mod Memory
-pub mod Places
+pub mod Offsets
 pub mod Lending

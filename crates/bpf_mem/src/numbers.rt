@@ -1,21 +1,43 @@
-// Numbers of up to eight octets, the lowest first.
+// Numbers of up to eight octets, little-endian.
 ghost use Rattle.std.specs.Prelude.{◌≡◌, ◌≤◌, ◌<◌, ◌^◌, length};
 ghost use Rattle.std.specs.Int.{bytes_low_first};
 ghost use Rattle.bpf_mem.specs.Memory.{number_of};
 
-/// The number that some octets are.
-pub(crate) fn number_of(octets: &[u8]) -> u64
-    requires { length octets.now ≤ 8 }
+// The number in at most four octets.
+#[inline(always)]
+fn number_of_few(octets: &[u8]) -> u64
+    requires { length octets.now ≤ 4 }
     ensures value { result ≡ number_of octets.now }
-    ensures bound { result < 256 ^ length octets.now }
+    ensures bound { result < 2 ^ 32 }
 {
     match octets {
         [] => 0,
-        [lowest, others @ ..] => u64::from(*lowest) + 256 * number_of(others),
+        [a] => u64::from(*a),
+        [a, b] => u64::from(*a) + 256 * u64::from(*b),
+        [a, b, c] => u64::from(*a) + 256 * (u64::from(*b) + 256 * u64::from(*c)),
+        [a, b, c, d, ..] => {
+            u64::from(*a) + 256 * (u64::from(*b) + 256 * (u64::from(*c) + 256 * u64::from(*d)))
+        }
     }
 }
 
-/// Writes the low octets of a number.
+// The number in at most eight octets. It is written without a loop, since each load of a program calls it.
+#[inline(always)]
+pub(crate) fn number_of(octets: &[u8]) -> u64
+    requires { length octets.now ≤ 8 }
+    ensures { result ≡ number_of octets.now }
+{
+    match octets {
+        [a, b, c, d, others @ ..] => {
+            let high = u64::from(*d) + 256 * number_of_few(others);
+            u64::from(*a) + 256 * (u64::from(*b) + 256 * (u64::from(*c) + 256 * high))
+        }
+        _ => number_of_few(octets),
+    }
+}
+
+// Writes the low octets of a number, as many as the slice has.
+#[inline(always)]
 pub(crate) fn write_number(octets: &mut [u8], value: u64)
     requires { length octets.old ≤ 8 }
     ensures { octets.new ≡ bytes_low_first 0 (length octets.old) value }

@@ -2,55 +2,55 @@
 ghost use Rattle.std.specs.Prelude.{◌≡◌, ◌+◌, ◌≤◌, length, take, drop, replicate, IfOk};
 ghost use Rattle.std.specs.Borrow.{sem};
 
-use crate::places::{HEAP_SIZE, STACK_SIZE};
+use crate::regions::{HEAP_SIZE, STACK_SIZE};
 use std::alloc::{AllocError, Global};
 use std::marker::Model;
 
-/// Room for a stack and a heap, which one program run after another may use.
+/// Room for a stack and a heap, which one run of a program after another may use.
 #[derive(Drop)]
 pub struct Room {
-    // The stack, and the heap behind it.
+    // The octets of the stack, then those of the heap.
     octets: Vec<u8>,
 }
 
 impl Model for Room {
     ghost use Rattle.std.specs.Prelude.{◌≡◌, ℕ, ◌+◌, List, length};
-    ghost use Rattle.bpf_mem.specs.Memory.{stack_size, heap_size};
+    ghost use Rattle.bpf_mem.specs.declared.regions.TheConstants.{STACK_SIZE, HEAP_SIZE};
 
     ghost Value = { List ℕ };
 
     ghost view = { λ r. r.octets.items };
 
-    ghost invariant = { λ r. length r.octets.items ≡ stack_size + heap_size };
+    ghost invariant = { λ r. length r.octets.items ≡ STACK_SIZE + HEAP_SIZE };
 }
 
 impl Room {
-    ghost use Rattle.bpf_mem.specs.Memory.{stack_size, heap_size};
     ghost use Rattle.bpf_mem.specs.Lending.{LendsPart};
 
-    /// Takes the memory that a program run needs, 8,704 octets.
+    /// Allocates the room, 8,704 octets of zeros. An error is a want of memory.
     pub fn make(alloc: Global) -> Result<Room, AllocError>
-        ensures { IfOk result (λ r. r ≡ replicate (stack_size + heap_size) 0) }
+        ensures { IfOk result (λ r. r ≡ replicate (STACK_SIZE + HEAP_SIZE) 0) }
     {
         let octets = vec![in alloc; 0; STACK_SIZE + HEAP_SIZE]?;
         Ok(Room { octets })
     }
 
-    /// Makes all octets zero.
+    // Makes all octets zero.
     pub(crate) fn clear(&mut self)
-        ensures { self.new ≡ replicate (stack_size + heap_size) 0 }
+        ensures { self.new ≡ replicate (STACK_SIZE + HEAP_SIZE) 0 }
     {
         self.octets.fill(0);
     }
 
-    /// All octets.
+    // All octets.
     pub(crate) fn octets(&self) -> &[u8]
         ensures { result.now ≡ self.now }
     {
         &self.octets
     }
 
-    /// The octets from a place on, to be written.
+    // The `len` octets from offset `at` on, to be written.
+    #[inline(always)]
     pub(crate) fn part_mut(&mut self, at: usize, len: usize) -> &mut [u8]
         requires { at + len ≤ length self.old }
         ensures* writes_back { sem 𝓛 (LendsPart self.entry at result) }

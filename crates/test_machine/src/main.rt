@@ -1,14 +1,18 @@
-//! Runs each row of a table of instructions, by the word FILE, and prints the rows that end otherwise than they say, and how many there are.
+//! Runs each row of a table of instructions, and prints the rows that end otherwise than they say, and the number of
+//! rows. The word is FILE, the table.
 //!
-//! The table has each opcode of the profile with operands at the edges. bench/test_machine/rows.rs writes it, from the text
-//! of RFC 9669 and not from this repository's definitions; its head says what a line is. It stands on `bpf_machine`,
-//! `bpf_mem` and `bpf_insn`, and promises nothing beyond being safe.
+//! The table has each opcode of the profile with operands at the edges. bench/test_machine/rows.rs writes it from the
+//! text of RFC 9669 and not from this repository's definitions; its head says what a line is. The program promises
+//! nothing except to be safe. Beside it, `counter` runs code over a world that borrows what it writes.
 #![tactic(auto)]
 
 ghost use Rattle.std.specs.Prelude.{◌≡◌, ℕ, ◌<◌, ◌==◌, IfSome};
 ghost use Rattle.bpf_insn.specs.Helpers.{allows};
 
+pub mod counter;
+
 use anyhow::{Context, Result};
+use bpf_insn::opcodes::LD_IMM64;
 use bpf_insn::{HelperSet, load};
 use bpf_machine::{Called, Cause, End, Helpers, run};
 use bpf_mem::{Memory, Room};
@@ -16,13 +20,13 @@ use std::alloc::Global;
 use std::rt::Files;
 use std::{env, fs};
 
-/// Helper 1 adds r1 and r2.
+// Helper 1 adds r1 and r2.
 #[derive(Drop)]
 struct Sums;
 
 impl Helpers for Sums {
     ghost use Rattle.std.specs.Prelude.{ℕ, ◌+◌, ◌%◌, ◌^◌, ◌==◌, slice_index};
-    ghost use Rattle.bpf_machine.specs.Running.{Answered};
+    ghost use Rattle.bpf_machine.specs.Running.{CallResult};
     ghost use Rattle.bpf_machine.specs.declared.world.Called.TheVariants.{Value};
 
     ghost State = { Unit {0} };
@@ -31,21 +35,27 @@ impl Helpers for Sums {
 
     ghost allowed = { λ _ n. n == 1 };
 
-    ghost helps = { λ n args memory world. record { called = Value ((slice_index args 0 + slice_index args 1) % 2 ^ 64); memory = memory; world = world } };
+    ghost helps = { λ n args memory world.
+        let sum = (slice_index args 0 + slice_index args 1) % 2 ^ 64 in
+        record { called = Value sum; memory = memory; world = world } };
+
+    ghost Names = { Unit {0} };
+
+    ghost names = { λ _. tt };
 
     fn call(&mut self, _number: u32, args: [u64; 5], _memory: &mut Memory<'_>) -> Called {
         Called::Value(args[0].wrapping_add(args[1]))
     }
 }
 
-/// The helpers that a world of sums has.
+// The helpers that a world of sums allows.
 fn helpers() -> HelperSet
     ensures { (n : ℕ) → allows result n ≡ (n == 1) }
 {
     HelperSet::none().with(1)
 }
 
-/// The value of a hexadecimal digit.
+// The value of a hexadecimal digit.
 fn digit(octet: u8) -> Option<u8>
     ensures { IfSome result (λ d. d < 16) }
 {
@@ -56,7 +66,7 @@ fn digit(octet: u8) -> Option<u8>
     }
 }
 
-/// The number that a text of hexadecimal digits is.
+// The number in hexadecimal digits.
 fn number(text: &str) -> Option<u64> {
     let mut sum: u64 = 0;
     for octet in text.as_bytes() {
@@ -65,12 +75,12 @@ fn number(text: &str) -> Option<u64> {
     Some(sum)
 }
 
-/// The octet of two hexadecimal digits.
+// The octet of two hexadecimal digits.
 fn octet_of(high: u8, low: u8) -> Option<u8> {
     Some(digit(high)? * 16 + digit(low)?)
 }
 
-/// Appends the octets that a text of hexadecimal digits is.
+// Appends the octets in hexadecimal digits.
 fn push_octets(code: &mut Vec<u8>, text: &str) -> Result<()> {
     for pair in text.as_bytes().chunks(2) {
         let [high, low] = pair else {
@@ -81,17 +91,17 @@ fn push_octets(code: &mut Vec<u8>, text: &str) -> Result<()> {
     Ok(())
 }
 
-/// Appends a 64-bit load into a register.
+// Appends a 64-bit load into a register.
 fn push_wide(code: &mut Vec<u8>, register: u8, value: u64) -> Result<()> {
     let v = value.to_le_bytes();
     let slots = [
-        0x18, register, 0, 0, v[0], v[1], v[2], v[3], 0, 0, 0, 0, v[4], v[5], v[6], v[7],
+        LD_IMM64, register, 0, 0, v[0], v[1], v[2], v[3], 0, 0, 0, 0, v[4], v[5], v[6], v[7],
     ];
     code.extend_from_slice(&slots)?;
     Ok(())
 }
 
-/// How the slots of a row end behind the loads of r0 and r2.
+// How the slots of a row end after loads of `x` into r0 and `y` into r2.
 fn ran(alloc: Global, room: &mut Room, slots: &[u8], x: u64, y: u64) -> Result<End> {
     let mut octets = Vec::new(alloc);
     push_wide(&mut octets, 0, x)?;
@@ -102,7 +112,7 @@ fn ran(alloc: Global, room: &mut Room, slots: &[u8], x: u64, y: u64) -> Result<E
     Ok(run(&code, &mut memory, &mut Sums, 100))
 }
 
-/// What a row says of its end.
+// The end that a row says.
 fn wanted(text: &str) -> Option<End> {
     if text == "fault" {
         Some(End::Failed(Cause::Memory))
@@ -134,7 +144,7 @@ fn try_rows(rt: &(impl Files + Print + AllocGlobal), name: &str) -> Result<()> {
                     println!(rt; "{slots:?} at {line}: {end:?}")?;
                 }
             }
-            _ => anyhow::bail!("a line that isn't one: {line}"),
+            _ => anyhow::bail!("no row: {line}"),
         }
     }
     println!(rt; "{rows} rows, {wrong} wrong")?;

@@ -3,7 +3,7 @@ use Rattle.std.proofs.Common.{◌≡◌, ℕ, Bool, false, List, ◌++◌, Optio
 use Rattle.xb_values.specs.Texts.{line}
 use Rattle.bpf_insn.specs.declared.fault.LoadFault.{LoadFault}
 use Rattle.bpf_insn.specs.Loading.{load_fault}
-use Rattle.bpf_insn.proofs.Faults.{load_fault-same}
+use Rattle.bpf_insn.proofs.LoadLemmas.{load_fault-same}
 use Rattle.xbgp_top.specs.declared.status.Status.{Status}
 use Rattle.xbgp_top.specs.declared.status.Status.TheVariants.{Done}
 use Rattle.xbgp_top.specs.Answers.{Answer, alone, answered, bad_code, end_line, end_words, exec_answer, no_helper}

@@ -1,5 +1,5 @@
 use Rattle.std.proofs.Common.{refl}
-use Rattle.bpf_mem.proofs.Rooms.{place-there, lends-write, lends-value, lends-len}
+use Rattle.bpf_mem.proofs.OffsetLemmas.{writable_offset-there, memory_of-lent, writable_at-region_part, length-region_part}
 use Rattle.bpf_mem.proofs.memory.Memory.octets_mut.Goals as goal
 
 pub returns : goal.returns
@@ -10,11 +10,11 @@ returns c =
     let size = c.self.invariant.0 in
     let is = c.self.view_is in
     let at = c.unwrap_or-at.result in
-    let there = place-there os window m c.args.addr c.args.len size is c.writable_place.result at c.writable_place.ensures c.unwrap_or-at.ensures c.requires in (
-      (refl, lends-write os window m c.args.addr c.args.len size is at there),
+    let there = writable_offset-there os window m c.args.addr c.args.len size is c.writable_offset.result at c.writable_offset.ensures c.unwrap_or-at.ensures c.requires in (
+      (refl, memory_of-lent os window m c.args.addr c.args.len size is at there),
       record {
         writes_back = tt;
-        value = lends-value os window m c.args.addr c.args.len size is at c.part_mut.result.now there c.part_mut.ensures.value;
-        len = lends-len os window m c.args.addr c.args.len size is at c.part_mut.result.now there c.part_mut.ensures.value;
+        value = writable_at-region_part os window m c.args.addr c.args.len size is at c.part_mut.result.now there c.part_mut.ensures.value;
+        len = length-region_part os window m c.args.addr c.args.len size is at c.part_mut.result.now there c.part_mut.ensures.value;
       },
     )

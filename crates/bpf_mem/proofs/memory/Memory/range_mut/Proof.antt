@@ -1,4 +1,4 @@
--- `range_mut` hands on what `octets_mut` lends, where the range may be written, and lends nothing elsewhere. This is a proof by hand, statement by statement.
+-- `range_mut` passes on what `octets_mut` lends if the range may be written, and otherwise lends nothing. This is a proof by hand, statement by statement.
 use Rattle.std.proofs.Common.{◌≡◌, ℕ, ◌<◌, ◌^◌, List, [], ◌∷◌, refl, sym, ap, ◌∙◌, lit<, MutBor, true, false, length, Some, None, is_some, IsSome}
 use Rattle.std.proofs.raw_atomic.Walks.{proved}
 use seplogic.Ra.Ura.{Ura}
@@ -38,15 +38,15 @@ use denote.Triple.Table.{framed}
 use denote.Triple.Walked.{Stays, walk_of, says, stay_dropped, Goes-dropped, Goes-spent_ref, ends_at}
 use Rattle.std.specs.contracts.option.Option as OP
 use Rattle.bpf_mem.specs.Memory.{Memory, writable_at}
-use Rattle.bpf_mem.specs.Places.{writable_place}
+use Rattle.bpf_mem.specs.Offsets.{writable_offset}
 use Rattle.bpf_mem.specs.Lending.{LendsRange}
 use Rattle.bpf_mem.specs.contracts.memory.Memory.{the_row}
 use Rattle.bpf_mem.specs.contracts.memory.Memory.range_mut as f
 use Rattle.bpf_mem.specs.contracts.memory.Memory.octets_mut as g
-use Rattle.bpf_mem.specs.contracts.places.is_place as h
-use Rattle.bpf_mem.proofs.Rooms.{writable-there}
+use Rattle.bpf_mem.specs.contracts.offsets.has_offset as h
+use Rattle.bpf_mem.proofs.OffsetLemmas.{is_some-writable_at}
 use Rattle.bpf_mem.proofs.memory.Memory.octets_mut.Met as octets_mut
-use Rattle.bpf_mem.proofs.places.is_place.Met as is_place
+use Rattle.bpf_mem.proofs.offsets.has_offset.Met as has_offset
 use Rattle.bpf_mem.proofs.memory.Memory.range_mut.Statement.{statement}
 use Rattle.bpf_mem.proofs.memory.Memory.range_mut.Code as code
 
@@ -74,15 +74,15 @@ module _ {M : Type 1} {𝓤 : Ura M} (𝓛 : Logic 𝓤) (X : RattleType) where
       feq_i ! (List Val) (live 0 (of_list []) ∷ []) (live 0 (of_list []) ∷ []) refl $ fjoin ! $
       fpack ! (List Val) (tagged_with (form_of (shape (OP.the_type X))) (form_of (shape (OP.the_type X))).payload ((OP.the_type X).to None) (live 0 (of_list []) ∷ [])) [] $ done !
 
--- where a range has no place, memory has no octets of it to be written
-absent : (m : Memory) (addr len : ℕ) → is_some (writable_place addr len) ≡ false → None ≡ writable_at m addr len
+-- if a range has no offset, memory has no octets of it to be written
+absent : (m : Memory) (addr len : ℕ) → is_some (writable_offset addr len) ≡ false → None ≡ writable_at m addr len
 absent m addr len e =
     elim (writable_at m addr len) as (λ o. is_some o ≡ false → None ≡ o) [
       | None ↦ λ _. refl
       | Some w ↦ λ t. absurd (true≢false t)
-    ] (writable-there m addr len ∙ e)
+    ] (is_some-writable_at m addr len ∙ e)
 
--- the types behind the argument and of what is lent
+-- the types of what the argument refers to and of what is lent
 abbrev Row : Lfts 2 → RattleType
 Row κs = the_row (named_lft 2 1 tt κs)
 
@@ -110,10 +110,10 @@ range_mut_spec 𝓤 𝓛 𝓜 𝓡 wired =
     let z : H.Ghost = ((tt, tt, tt, (start, (len, tt)), (vint w64 start ∷ [], (vint w64 len ∷ [], tt))), tt) in
     nothing ! $ owned ! u64 _ (uint_Makes 𝓛 w64) len _ (refl, fl) $ join ! $ owned ! u64 _ (uint_Makes 𝓛 w64) start _ (refl, fa) $ join ! $ nothing ! $ join ! $
     nothing ! $ move ! (1 ∷ 0 ∷ []) $ use2 𝓛 (raw (H.pre z)) (id⊢ 𝓤 _) $
-    calls_at ! (framed 𝓤 𝓛.H 𝓜 𝓣) H (is_place.met 𝓤 𝓛 𝓜 𝓡 (code.calls-bpf_mem::places::is_place 𝓡.env wired)) z
+    calls_at ! (framed 𝓤 𝓛.H 𝓜 𝓣) H (has_offset.met 𝓤 𝓛 𝓜 𝓡 (code.calls-bpf_mem::offsets::has_offset 𝓡.env wired)) z
     (and_then ! (get ! refl) (and_then ! (get ! refl) (no_more !))) (λ v.
     use1 𝓛 (later (some (λ (r : Bool). (‵ ftrue ⊛ ‵ (bool.own_val r (v ∷ []))) ⊛
-    some (λ (ws : Unit {0} × (Unit {0} × Unit {0})). ‵ (lasts h.ended tt (start, (len, tt)) ws) ⊛ raw (fact 𝓤 (r ≡ is_some (writable_place start len))))))) (id⊢ 𝓤 _) $
+    some (λ (ws : Unit {0} × (Unit {0} × Unit {0})). ‵ (lasts h.ended tt (start, (len, tt)) ws) ⊛ raw (fact 𝓤 (r ≡ is_some (writable_offset start len))))))) (id⊢ 𝓤 _) $
     await ! tt $ pick ! (λ r. split ! $ split ! $ drop ! $ feq_l ! (λ is_bool. pick ! (λ ws. split ! $ drop ! $ heard ! _ (λ there.
     lands_as ! (ap only is_bool) refl (tt, tt) $
     first ! $ branches ! (get ! refl)
@@ -121,7 +121,7 @@ range_mut_spec 𝓤 𝓛 𝓜 𝓡 wired =
     let G = triple_of 𝓛 g.signature (g.spec 𝓛 𝓜.mem 𝓡.returns) in
     let z' : G.Ghost = ((κs, qs, bounds, a, y.0.4), tt) in
     sets ! (addr ! (through ! refl (stop !))) refl (tt, tt) $
-    use0 𝓛 (raw (fact 𝓤 (IsSome (writable_at m start len)))) (fact_i 𝓤 _ (emp 𝓤) (writable-there m start len ∙ (sym there ∙ is-true r t))) $
+    use0 𝓛 (raw (fact 𝓤 (IsSome (writable_at m start len)))) (fact_i 𝓤 _ (emp 𝓤) (is_some-writable_at m start len ∙ (sym there ∙ is-true r t))) $
     move ! (1 ∷ 0 ∷ []) $ use2 𝓛 (raw (G.pre z')) (id⊢ 𝓤 _) $
     calls_at ! (framed 𝓤 𝓛.H 𝓜 𝓣) G (octets_mut.met 𝓤 𝓛 𝓜 𝓡 (code.calls-bpf_mem::memory::Memory::octets_mut 𝓡.env wired)) z'
     (and_then ! (get ! refl) (and_then ! (get ! refl) (and_then ! (get ! refl) (no_more !)))) (λ v'.

@@ -1,0 +1,64 @@
+-- Parts of a list that is cut in two: `take k` is the stack, `drop k` the heap.
+use Rattle.std.proofs.Common.{◌≡◌, sym, ap, ◌∙◌, ℕ, ◌+◌, ◌-◌, ◌≤◌, List, ◌++◌, length, take, drop, arith, append_assoc}
+use Rattle.std.proofs.lemmas.Grind.{common_steps}
+use Rattle.std.proofs.lemmas.List.{take-append-drop, drop-append-le, length-take-le, take-take, drop-take, drop-drop, take_at, drop_at}
+use Rattle.std.proofs.Math.Seq.{take-add}
+use Rattle.bpf_mem.specs.Memory.{replaced, region_part}
+use Rattle.bpf_mem.specs.Offsets.{overwritten}
+
+-- octets written over others, if they fit
+abbrev pub over : List ℕ → ℕ → List ℕ → List ℕ
+over os at w = take at os ++ (w ++ drop (at + length w) os)
+
+-- octets that fit are not cut
+pub overwritten-over : (os : List ℕ) (at : ℕ) (w : List ℕ) → at + length w ≤ length os → overwritten os at w ≡ over os at w
+overwritten-over os at w h = grind (arith, common_steps)
+
+-- replacing keeps the length
+pub length-replaced : (os : List ℕ) (at : ℕ) (w : List ℕ) → at + length w ≤ length os → length (replaced os at w) ≡ length os
+length-replaced os at w h = grind (arith, common_steps)
+
+-- a write into the front, and one into the back
+over-front : (k : ℕ) (os : List ℕ) (at : ℕ) (w : List ℕ) → k ≤ length os → at + length w ≤ k → over os at w ≡ replaced (take k os) at w ++ drop k os
+over-front k os at w h i =
+    let front = length-take-le k os h in
+    let rest : drop (at + length w) os ≡ drop (at + length w) (take k os) ++ drop k os =
+    ap (λ l. drop (at + length w) l) (sym (take-append-drop k os)) ∙ drop-append-le (at + length w) (take k os) (drop k os) (omega (arith, front)) in
+    let before : take at os ≡ take at (take k os) = sym (take-take at k os (omega arith)) in
+    rw (rest, before) (simp append_assoc)
+
+over-back : (k : ℕ) (os : List ℕ) (at : ℕ) (w : List ℕ) → over os (k + at) w ≡ take k os ++ replaced (drop k os) at w
+over-back k os at w =
+    let rest : drop (k + at + length w) os ≡ drop (at + length w) (drop k os) =
+    ap (λ n. drop n os) (let e : k + at + length w ≡ k + (at + length w) = omega arith in e) ∙ sym (drop-drop (at + length w) k os) in
+    rw (rest, take-add k at os) (simp append_assoc)
+
+-- stack and heap after a write into the front, and after one into the back
+pub take-over-front : (k : ℕ) (os : List ℕ) (at : ℕ) (w : List ℕ) → k ≤ length os → at + length w ≤ k → take k (over os at w) ≡ replaced (take k os) at w
+take-over-front k os at w h i =
+    let front = length-take-le k os h in
+    ap (λ l. take k l) (over-front k os at w h i)
+    ∙ take_at (replaced (take k os) at w) (drop k os) k (length-replaced (take k os) at w (omega (arith, front)) ∙ front)
+
+pub drop-over-front : (k : ℕ) (os : List ℕ) (at : ℕ) (w : List ℕ) → k ≤ length os → at + length w ≤ k → drop k (over os at w) ≡ drop k os
+drop-over-front k os at w h i =
+    let front = length-take-le k os h in
+    ap (λ l. drop k l) (over-front k os at w h i)
+    ∙ drop_at (replaced (take k os) at w) (drop k os) k (length-replaced (take k os) at w (omega (arith, front)) ∙ front)
+
+pub take-over-back : (k : ℕ) (os : List ℕ) (at : ℕ) (w : List ℕ) → k ≤ length os → take k (over os (k + at) w) ≡ take k os
+take-over-back k os at w h =
+    ap (λ l. take k l) (over-back k os at w) ∙ take_at (take k os) (replaced (drop k os) at w) k (length-take-le k os h)
+
+pub drop-over-back : (k : ℕ) (os : List ℕ) (at : ℕ) (w : List ℕ) → k ≤ length os → drop k (over os (k + at) w) ≡ replaced (drop k os) at w
+drop-over-back k os at w h =
+    ap (λ l. drop k l) (over-back k os at w) ∙ drop_at (take k os) (replaced (drop k os) at w) k (length-take-le k os h)
+
+-- a part of the front, and one of the back
+pub region_part-take : (k : ℕ) (os : List ℕ) (at n : ℕ) → at + n ≤ k → region_part (take k os) at n ≡ region_part os at n
+region_part-take k os at n h =
+    let e : k ≡ at + (k - at) = omega arith in
+    ap (λ m. take n (drop at (take m os))) e ∙ ap (λ l. take n l) (drop-take at (k - at) os) ∙ take-take n (k - at) (drop at os) (omega arith)
+
+pub region_part-drop : (k : ℕ) (os : List ℕ) (at n : ℕ) → region_part (drop k os) at n ≡ region_part os (k + at) n
+region_part-drop k os at n = grind (arith, common_steps)
