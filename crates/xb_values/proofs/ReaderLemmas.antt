@@ -17,10 +17,12 @@ split_on-none c [] h = refl
 split_on-none c (x ∷ text) h =
     elim (cases_Bool (x == c)) [
       | inl is ↦ let zero : length (x ∷ text) ≤ 0 = rw is at h in absurd (omega arith)
-      | inr other ↦ let more : length (x ∷ text) ≤ 1 + position_or_len (λ x. x == c) text = rw other at h in rw other (ap (with_first_octet x) (split_on-none c text (omega arith)))
+      | inr other ↦ let more : length (x ∷ text) ≤ 1 + position_or_len (λ x. x == c) text = rw other at h in rw other
+          (ap (with_first_octet x) (split_on-none c text (omega arith)))
     ]
 
-split_on-some : (c : ℕ) (text : List ℕ) (n : ℕ) → n ≡ position_or_len (λ x. x == c) text → n < length text → split_on c text ≡ take n text ∷ split_on c (drop (n + 1) text)
+split_on-some : (c : ℕ) (text : List ℕ) (n : ℕ) → n ≡ position_or_len (λ x. x == c) text → n < length text
+    → split_on c text ≡ take n text ∷ split_on c (drop (n + 1) text)
 split_on-some c [] n e h = absurd (omega arith)
 split_on-some c (x ∷ text) n e h =
     elim (cases_Bool (x == c)) [
@@ -41,7 +43,8 @@ split_on-whole c text e =
     ]
 
 -- the first part of a text with the separator, and the parts of the rest
-pub split_on-first : (c : ℕ) (text : List ℕ) (at : ℕ) → Some at ≡ position (λ x. x == c) text → split_on c text ≡ take at text ∷ split_on c (take (length text - (at + 1)) (drop (at + 1) text))
+pub split_on-first : (c : ℕ) (text : List ℕ) (at : ℕ) → Some at ≡ position (λ x. x == c) text
+    → split_on c text ≡ take at text ∷ split_on c (take (length text - (at + 1)) (drop (at + 1) text))
 split_on-first c text at e =
     elim (cases_lt (position_or_len (λ x. x == c) text) (length text)) [
       | inl lt ↦
@@ -54,7 +57,8 @@ split_on-first c text at e =
 -- the number of digits after a value, if no step passes 64 bits (for the loop of `value_of`)
 abbrev pub value_after : ℕ → List ℕ → Option ℕ
 value_after value [] = Some value
-value_after value (c ∷ text) = if is_digit c && nat_le (value * 10 + (c - 48)) (2 ^ 64 - 1) then value_after (value * 10 + (c - 48)) text else None
+value_after value (c ∷ text) =
+    if is_digit c && nat_le (value * 10 + (c - 48)) (2 ^ 64 - 1) then value_after (value * 10 + (c - 48)) text else None
 
 -- the number of a value and the digits after it, if it has at most 64 bits
 abbrev value_then : ℕ → List ℕ → Option ℕ
@@ -72,26 +76,34 @@ value_after-is value (c ∷ text) fits =
             | inl small ↦ rw (digit, small) (value_after-is next text (leb-true _ _ small))
             | inr big ↦
                 let grows = number_after_ge 10 next (map (λ c. c - 48) text) (omega arith) in
-                let passes : nat_le (number_from_digits_after 10 next (map (λ c. c - 48) text)) (2 ^ 64 - 1) ≡ false = lt-leb _ _ (omega (arith, leb-false _ _ big)) in
+                let passes : nat_le (number_from_digits_after 10 next (map (λ c. c - 48) text)) (2 ^ 64 - 1)
+                    ≡ false = lt-leb _ _ (omega (arith, leb-false _ _ big)) in
                 rw (digit, big) (sym (cond-false _ _ None (and_right (list_all is_digit text) _ passes)))
           ]
       | inr none ↦ rw none refl
     ]
 
-value_after-zero : (text : List ℕ) → value_after 0 text ≡ (if list_all is_digit text && nat_le (digits_value text) (2 ^ 64 - 1) then Some (digits_value text) else None)
+value_after-zero : (text : List ℕ)
+    → value_after 0 text ≡ (if list_all is_digit text && nat_le (digits_value text) (2 ^ 64 - 1)
+        then Some (digits_value text) else None)
 value_after-zero text = value_after-is 0 text (omega arith)
 
 -- the value at the end of the digits is their number
-pub value_after-end : (value index : ℕ) (text : List ℕ) → length text ≤ index → value_after value (drop index text) ≡ value_after 0 text
-    → Some value ≡ (if list_all is_digit text && nat_le (digits_value text) (2 ^ 64 - 1) then Some (digits_value text) else None)
+pub value_after-end : (value index : ℕ) (text : List ℕ) → length text ≤ index
+    → value_after value (drop index text) ≡ value_after 0 text
+    → Some value ≡ (if list_all is_digit text && nat_le (digits_value text) (2 ^ 64 - 1) then Some (digits_value text)
+        else None)
 value_after-end value index text ended e =
     let nothing : drop index text ≡ [] = drop_all index text ended in
     ap (value_after value) (sym nothing) ∙ e ∙ value_after-zero text
 
 -- digits at which the value stops have no number of 64 bits
-pub value_after-stop : (value index : ℕ) (text : List ℕ) → index < length text → value_after value (drop index text) ≡ value_after 0 text
-    → None ≡ (if is_digit (get_or text index 0) && nat_le (value * 10 + (get_or text index 0 - 48)) (2 ^ 64 - 1) then Some (value * 10 + (get_or text index 0 - 48)) else None)
-    → None ≡ (if list_all is_digit text && nat_le (digits_value text) (2 ^ 64 - 1) then Some (digits_value text) else None)
+pub value_after-stop : (value index : ℕ) (text : List ℕ) → index < length text
+    → value_after value (drop index text) ≡ value_after 0 text
+    → None ≡ (if is_digit (get_or text index 0) && nat_le (value * 10 + (get_or text index 0 - 48)) (2 ^ 64 - 1)
+        then Some (value * 10 + (get_or text index 0 - 48)) else None)
+    → None ≡ (if list_all is_digit text && nat_le (digits_value text) (2 ^ 64 - 1) then Some (digits_value text)
+        else None)
 value_after-stop value index text lt e none =
     let c = get_or text index 0 in
     elim (cases_Bool (is_digit c && nat_le (value * 10 + (c - 48)) (2 ^ 64 - 1))) [
@@ -101,9 +113,11 @@ value_after-stop value index text lt e none =
           sym stops ∙ e ∙ value_after-zero text
     ]
 
--- A text is its only part, or has two parts at least. Then it is not made of octets of a kind that the separator is not of.
+-- A text is its only part, or has two parts at least. Then it is not made of octets of a kind that the separator is not
+-- of.
 pub split_on-cases : (test : ℕ → Bool) (c : ℕ) (text : List ℕ) → test c ≡ false
-    → (split_on c text ≡ text ∷ []) ⊎ ((p q : List ℕ) × (ps : List (List ℕ)) × (split_on c text ≡ p ∷ q ∷ ps) × (list_all test text ≡ false))
+    → (split_on c text ≡ text ∷ []) ⊎ ((p q : List ℕ) × (ps : List (List ℕ)) × (split_on c text ≡ p ∷ q ∷ ps)
+        × (list_all test text ≡ false))
 split_on-cases test c [] none = inl refl
 split_on-cases test c (x ∷ text) none =
     elim (cases_Bool (x == c)) [
@@ -146,7 +160,9 @@ and_octet first others = do
   ns ← others
   Some (n ∷ ns)
 
-four_octets_read : (a b c d : Option ℕ) → option_map (λ ns. four_at ns 0) (and_octet a (and_octet b (and_octet c (and_octet d (Some []))))) ≡ address_of a b c d
+four_octets_read : (a b c d : Option ℕ)
+    → option_map (λ ns. four_at ns 0) (and_octet a (and_octet b (and_octet c (and_octet d (Some [])))))
+        ≡ address_of a b c d
 four_octets_read None b c d = refl
 four_octets_read (Some m) None c d = refl
 four_octets_read (Some m) (Some n) None d = refl
@@ -160,17 +176,22 @@ no_fourth (Some m) (Some n) None d e = refl
 no_fourth (Some m) (Some n) (Some o) d e = rw e refl
 
 -- an address by its parts, of which the last is what follows the third dot
-read_dotted-parts : (text first second third fourth : List ℕ) → split_on 46 text ≡ first ∷ second ∷ third ∷ split_on 46 fourth
-    → read_dotted text ≡ address_of (number_up_to 255 first) (number_up_to 255 second) (number_up_to 255 third) (number_up_to 255 fourth)
+read_dotted-parts : (text first second third fourth : List ℕ)
+    → split_on 46 text ≡ first ∷ second ∷ third ∷ split_on 46 fourth
+    → read_dotted text ≡ address_of (number_up_to 255 first) (number_up_to 255 second) (number_up_to 255 third)
+        (number_up_to 255 fourth)
 read_dotted-parts text first second third fourth e =
     elim (split_on-cases is_digit 46 fourth refl) [
-      | inl one ↦ rw (e, one) (four_octets_read (number_up_to 255 first) (number_up_to 255 second) (number_up_to 255 third) (number_up_to 255 fourth))
+      | inl one ↦ rw (e, one) (four_octets_read (number_up_to 255 first) (number_up_to 255 second)
+          (number_up_to 255 third) (number_up_to 255 fourth))
       | inr (p, q, ps, more, other) ↦
           let five : (suc (suc (suc (suc (suc (length ps))))) == 4) ≡ false = ne_eqb _ _ (λ same. omega arith) in
-          rw (e, more, five) (no_fourth (number_up_to 255 first) (number_up_to 255 second) (number_up_to 255 third) (number_up_to 255 fourth) (number_up_to-none 255 fourth other))
+          rw (e, more, five) (no_fourth (number_up_to 255 first) (number_up_to 255 second) (number_up_to 255 third)
+              (number_up_to 255 fourth) (number_up_to-none 255 fourth other))
     ]
 
-no_length : (address len : Option ℕ) → len ≡ None → let none : Option Prefix = None in none ≡ (address >>= λ a. len >>= λ l. Some (prefix_of a l))
+no_length : (address len : Option ℕ) → len ≡ None
+    → let none : Option Prefix = None in none ≡ (address >>= λ a. len >>= λ l. Some (prefix_of a l))
 no_length None len e = refl
 no_length (Some a) len e = rw e refl
 
@@ -180,19 +201,23 @@ read_prefix-parts : (text address len : List ℕ) → split_on 47 text ≡ addre
 read_prefix-parts text address len e =
     elim (split_on-cases is_digit 47 len refl) [
       | inl one ↦ rw (e, one) refl
-      | inr (p, q, ps, more, other) ↦ rw (e, more) (no_length (read_dotted address) (number_up_to 32 len) (number_up_to-none 32 len other))
+      | inr (p, q, ps, more, other) ↦ rw (e, more) (no_length (read_dotted address) (number_up_to 32 len)
+          (number_up_to-none 32 len other))
     ]
 
 -- an address by what was read of its parts
 pub read_dotted-by : (text first second third fourth two three : List ℕ) (a b c d : Option ℕ)
-    → split_on 46 text ≡ first ∷ split_on 46 two → split_on 46 two ≡ second ∷ split_on 46 three → split_on 46 three ≡ third ∷ split_on 46 fourth
-    → a ≡ number_up_to 255 first → b ≡ number_up_to 255 second → c ≡ number_up_to 255 third → d ≡ number_up_to 255 fourth → address_of a b c d ≡ read_dotted text
+    → split_on 46 text ≡ first ∷ split_on 46 two → split_on 46 two ≡ second ∷ split_on 46 three
+    → split_on 46 three ≡ third ∷ split_on 46 fourth
+    → a ≡ number_up_to 255 first → b ≡ number_up_to 255 second → c ≡ number_up_to 255 third
+    → d ≡ number_up_to 255 fourth → address_of a b c d ≡ read_dotted text
 read_dotted-by text first second third fourth two three a b c d e f g is_a is_b is_c is_d =
     rw (is_a, is_b, is_c, is_d)
     (sym (read_dotted-parts text first second third fourth (e ∙ ap (λ p. first ∷ p) (f ∙ ap (λ p. second ∷ p) g))))
 
 -- a prefix by what was read of its parts
-pub read_prefix-by : (text address len : List ℕ) (a l : Option ℕ) → split_on 47 text ≡ address ∷ split_on 47 len → a ≡ read_dotted address → l ≡ number_up_to 32 len
+pub read_prefix-by : (text address len : List ℕ) (a l : Option ℕ) → split_on 47 text ≡ address ∷ split_on 47 len
+    → a ≡ read_dotted address → l ≡ number_up_to 32 len
     → (a >>= λ a. l >>= λ l. Some (prefix_of a l)) ≡ read_prefix text
 read_prefix-by text address len a l e is_a is_l = rw (is_a, is_l) (sym (read_prefix-parts text address len e))
 
@@ -207,12 +232,15 @@ number_up_to-le limit n text e =
       | inr wrong ↦ let none : Some n ≡ None = rw wrong at e in cc none
     ]
 
-prefix_some : (made : Option Prefix) (a l : ℕ) → IsSome made ↔ (l ≤ 32) → IfSome made (λ p. p ≡ prefix_of a l) → l ≤ 32 → made ≡ Some (prefix_of a l)
+prefix_some : (made : Option Prefix) (a l : ℕ) → IsSome made ↔ (l ≤ 32) → IfSome made (λ p. p ≡ prefix_of a l) → l ≤ 32
+    → made ≡ Some (prefix_of a l)
 prefix_some None a l some value fits = let wrong : false ≡ true = some.1 fits in cc wrong
 prefix_some (Some p) a l some value fits = ap Some value
 
 -- a prefix of an address and a length that were read
-pub read_prefix-made : (text address len : List ℕ) (a l : ℕ) (made : Option Prefix) → split_on 47 text ≡ address ∷ split_on 47 len → Some a ≡ read_dotted address → Some l ≡ number_up_to 32 len
+pub read_prefix-made : (text address len : List ℕ) (a l : ℕ) (made : Option Prefix)
+    → split_on 47 text ≡ address ∷ split_on 47 len → Some a ≡ read_dotted address → Some l ≡ number_up_to 32 len
     → IsSome made ↔ (l ≤ 32) → IfSome made (λ p. p ≡ prefix_of a l) → made ≡ read_prefix text
 read_prefix-made text address len a l made e is_a is_l some value =
-    prefix_some made a l some value (number_up_to-le 32 l len is_l) ∙ read_prefix-by text address len (Some a) (Some l) e is_a is_l
+    prefix_some made a l some value (number_up_to-le 32 l len is_l)
+        ∙ read_prefix-by text address len (Some a) (Some l) e is_a is_l

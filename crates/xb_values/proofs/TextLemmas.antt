@@ -10,7 +10,8 @@ octets_length [] = refl
 octets_length (b ∷ octets) = omega (arith, octets_length octets)
 
 -- octets that there are have two digits each
-pub hex_text_some : (octets : List ℕ) → 0 < length octets → (length (hex_text octets) ≡ 2 * length octets) × (hex_text octets ≡ flat_map hex_octet octets)
+pub hex_text_some : (octets : List ℕ) → 0 < length octets
+    → (length (hex_text octets) ≡ 2 * length octets) × (hex_text octets ≡ flat_map hex_octet octets)
 hex_text_some [] some = absurd (omega arith)
 hex_text_some (b ∷ octets) some = (octets_length (b ∷ octets), refl)
 

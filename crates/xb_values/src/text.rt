@@ -50,8 +50,8 @@ fn push_all(out: &mut Buf, parts: &[&[u8]]) -> bool
     true
 }
 
-/// Appends an address as four numbers joined by dots, that of its high octet first, or nothing if it does not fit. Whether
-/// it fits is returned.
+/// Appends an address as four numbers joined by dots, that of its high octet first, or nothing if it does not fit.
+/// Whether it fits is returned.
 pub fn push_dotted(out: &mut Buf, addr: u32) -> bool
     ensures { Appends result out.old out.new (dotted addr) }
 {
@@ -142,8 +142,8 @@ fn push_digits(out: &mut Buf, bytes: &[u8])
     push_few(out, rest);
 }
 
-/// Appends two digits for each octet, or a dash if there are no octets, or nothing if that does not fit. Whether it fits is
-/// returned.
+/// Appends two digits for each octet, or a dash if there are no octets, or nothing if that does not fit. Whether it
+/// fits is returned.
 #[tactic(auto, using(crate::proofs::TextLemmas::hex_text_some, crate::proofs::TextLemmas::hex_text_length))]
 pub fn push_hex(out: &mut Buf, bytes: &[u8]) -> bool
     ensures appends { Appends result out.old out.new (hex_text bytes.now) }
