@@ -1,23 +1,23 @@
 //! Feeds the octets of a file to `Frames` 64 times over, in pieces of one size, and prints how many messages came.
 //! It is the program that bench/frames measures; the words are PIECE (octets) and FILE.
 //!
-//! It stands on `bgp_frame` and promises nothing beyond being safe.
+//! It uses `bgp_frame`, and its contracts promise only that there is room for the next octet, so that it ends.
 #![tactic(auto)]
 
 ghost use Rattle.std.specs.Prelude.{◌<◌, length};
 
-use bgp_frame::{Frames, Next};
+use bgp_frame::{Frames, MAX_WAITING, Next};
 use std::process::ExitCode;
 use std::rt::{Env, Files};
 use std::{env, fs, io};
 
-// How often the file is fed: 64 MiB where it has one.
+// How often the file is fed: 64 MiB if it has one.
 const TIMES: u32 = 64;
 
-// The messages that whole octets of a stream give, counted from some number on, or None at a fault.
-#[tactic(auto, using(crate::proofs::Waits::fewer_wait))]
+// Removes all whole messages, and counts them from `so_far` on. None at a fault.
+#[tactic(auto, using(crate::proofs::WaitingLemmas::fewer_wait))]
 fn take_messages(frames: &mut Frames, so_far: u64) -> Option<u64>
-    ensures { length frames.new.waits < 8192 }
+    ensures { length frames.new.waits < MAX_WAITING }
 {
     let mut count = so_far;
     'messages: loop {
@@ -32,10 +32,11 @@ fn take_messages(frames: &mut Frames, so_far: u64) -> Option<u64>
     }
 }
 
+// Feeds all octets in pieces, and counts the messages from `so_far` on. None at a fault.
 fn feed_all(frames: &mut Frames, octets: &[u8], piece: usize, so_far: u64) -> Option<u64>
     requires piece { 0 < piece }
-    requires room { length frames.old.waits < 8192 }
-    ensures { length frames.new.waits < 8192 }
+    requires room { length frames.old.waits < MAX_WAITING }
+    ensures { length frames.new.waits < MAX_WAITING }
 {
     let mut rest = octets;
     let mut count = so_far;
@@ -48,9 +49,10 @@ fn feed_all(frames: &mut Frames, octets: &[u8], piece: usize, so_far: u64) -> Op
     Some(count)
 }
 
+// The messages of all rounds.
 fn count_messages(frames: &mut Frames, octets: &[u8], piece: usize) -> Option<u64>
     requires piece { 0 < piece }
-    requires room { length frames.old.waits < 8192 }
+    requires room { length frames.old.waits < MAX_WAITING }
 {
     let mut count = 0;
     'times: for _ in 0..TIMES {

@@ -1,2 +1,2 @@
-pub mod Cuts
-pub mod Headers
+pub mod PieceLemmas
+pub mod WaitingLemmas

@@ -1,29 +1,20 @@
+// The buffer of a stream that comes in pieces.
 ghost use Rattle.std.specs.Prelude.{◌≡◌, ◌↔◌, ◌<◌, ◌≤◌, ◌+◌, ◌-◌, ◌++◌, [], length, take, drop, min, Some, IfOk, vec_capacity};
 ghost use Rattle.xb_wire.specs.Messages.{message_size, message_body};
+ghost use Rattle.xb_wire.specs.Fronts.{IsNext};
 ghost use Rattle.bgp_frame.specs.Waiting.{Waiting};
-ghost use Rattle.bgp_frame.specs.Fronts.{IsNext, after_next};
+ghost use Rattle.bgp_frame.specs.Fronts.{after_next, HasSizedBody};
 
 use std::alloc::{AllocError, Global};
 use std::marker::Model;
-use xb_wire::{HeaderFault, fault_in_header};
-use xb_words::u16_at;
+use xb_wire::numbers::{HEADER, MAX_BODY, MAX_MESSAGE};
+use xb_wire::{Next, front_of};
 
-// Octets of a header: a marker of 16, a length of 2, a type.
-const HEADER: usize = 19;
+/// The most octets that wait: two of the longest messages.
+pub const MAX_WAITING: usize = 2 * MAX_MESSAGE;
 
-// At most this many octets wait.
-const WAITING: usize = 8192;
-
-// Room for what waits and a body, twice over, so that octets are moved only after as many were taken.
-const ROOM: usize = 24576;
-
-/// What stands in front of the octets that wait. `len` counts the header too.
-#[derive(Clone, Copy, Debug, PartialEq, Eq)]
-pub enum Next {
-    Whole { kind: u8, len: u16 },
-    More,
-    Fault(HeaderFault),
-}
+// Three times what may wait, so each octet is moved at most once on average.
+const ROOM: usize = 3 * MAX_WAITING;
 
 /// The messages of a stream that comes in pieces. At most 8,192 octets wait.
 #[derive(Drop)]
@@ -40,31 +31,15 @@ impl Model for Frames {
 
     ghost Value = { Waiting };
 
-    ghost view = { λ f. record { waits = drop f.start f.octets.items; body = slice_range f.octets.items f.body f.start } };
+    ghost view = { λ f. record {
+      waits = drop f.start f.octets.items;
+      body = slice_range f.octets.items f.body f.start;
+    } };
 
     ghost invariant = { λ f. IsKept f.octets.items f.body f.start (vec_capacity f.octets) };
 }
 
-fn front_of(waits: &[u8]) -> Next
-    ensures { IsNext waits.now result }
-{
-    if waits.len() < HEADER {
-        return Next::More;
-    }
-    if let Some(fault) = fault_in_header(waits) {
-        return Next::Fault(fault);
-    }
-    let len = u16_at(waits, 16);
-    if waits.len() < usize::from(len) {
-        return Next::More;
-    }
-    Next::Whole {
-        kind: waits[18],
-        len,
-    }
-}
-
-// Drops the octets before a place.
+// Removes the octets before the offset `from`.
 fn drop_front(octets: &mut Vec<u8>, from: usize)
     requires { from ≤ length octets.old.items }
     ensures items { octets.new.items ≡ drop from octets.old.items }
@@ -76,7 +51,7 @@ fn drop_front(octets: &mut Vec<u8>, from: usize)
 }
 
 impl Frames {
-    /// Takes the memory of all later calls.
+    /// Takes the memory of all later calls. It fails only if there is no memory.
     pub fn make(alloc: Global) -> Result<Frames, AllocError>
         ensures { IfOk result (λ f. f ≡ record { waits = []; body = [] }) }
     {
@@ -87,15 +62,17 @@ impl Frames {
         })
     }
 
-    /// Appends as many octets of the piece as fit, and answers how many.
+    /// Appends as many octets of the piece as fit, and returns how many.
     pub fn feed(&mut self, piece: &[u8]) -> usize
-        ensures taken { result ≡ min (length piece.now) (8192 - length self.old.waits) }
+        ensures taken { result ≡ min (length piece.now) (MAX_WAITING - length self.old.waits) }
         ensures after { self.new ≡ record self.old { waits = self.old.waits ++ take result piece.now } }
-        ensures less { (result < length piece.now) ↔ (8192 < length self.old.waits + length piece.now) }
-        ensures few { length self.new.waits ≤ 8192 }
-        ensures full { result < length piece.now → length self.new.waits ≡ 8192 }
+        ensures less { (result < length piece.now) ↔ (MAX_WAITING < length self.old.waits + length piece.now) }
+        ensures few { length self.new.waits ≤ MAX_WAITING }
+        ensures full { result < length piece.now → length self.new.waits ≡ MAX_WAITING }
     {
-        let count = piece.len().min(WAITING - (self.octets.len() - self.start));
+        let count = piece
+            .len()
+            .min(MAX_WAITING - (self.octets.len() - self.start));
         if ROOM - self.octets.len() < count {
             drop_front(&mut self.octets, self.body);
             self.start -= self.body;
@@ -105,31 +82,37 @@ impl Frames {
         count
     }
 
-    /// Takes off the first whole message, or answers that more is wanted or why the header in front is refused.
+    /// Removes the first message, or reports that more octets are needed, or why the first header is invalid.
     pub fn next(&mut self) -> Next
-        ensures answer { IsNext self.old.waits result }
+        ensures front { IsNext self.old.waits result }
         ensures after { self.new ≡ after_next self.old result }
-        ensures short { result ≡ Next.More → length self.new.waits < 4096 }
+        ensures sized { HasSizedBody result self.new.body }
+        ensures short { result ≡ Next.More → length self.new.waits < MAX_MESSAGE }
     {
-        let next = front_of(&self.octets[self.start..]);
-        if let Next::Whole { len, .. } = next {
-            self.take_off(len);
+        match front_of(&self.octets[self.start..]) {
+            Next::Whole { kind, len } => {
+                self.remove_first(len);
+                Next::Whole { kind, len }
+            }
+            Next::More => Next::More,
+            Next::Fault(fault) => Next::Fault(fault),
         }
-        next
     }
 
-    // The body of the message in front is kept, and what stands behind it waits.
-    fn take_off(&mut self, len: u16)
+    // Keeps the body of the first message; the octets after it wait.
+    fn remove_first(&mut self, len: u16)
         requires { message_size self.old.waits ≡ Some len }
-        ensures { self.new ≡ record { waits = drop len self.old.waits; body = message_body (take len self.old.waits) } }
+        ensures after { self.new ≡ record { waits = drop len self.old.waits; body = message_body (take len self.old.waits) } }
+        ensures sized { len ≡ HEADER + length self.new.body }
     {
         self.body = self.start + HEADER;
         self.start += usize::from(len);
     }
 
-    /// The body of the message that was taken off last.
+    /// The body of the message that was removed last.
     pub fn body(&self) -> &[u8]
-        ensures { result.now ≡ self.now.body }
+        ensures value { result.now ≡ self.now.body }
+        ensures bound { length result.now ≤ MAX_BODY }
     {
         &self.octets[self.body..self.start]
     }

@@ -1,19 +1,23 @@
-//! The session machine (RFC 4271, sections 8 and 10, simplified): what a session does at a stimulus, and when its timers
-//! are due.
+//! The session machine of one peer (RFC 4271, sections 8 and 10, simplified: no Active state, no ConnectRetry timer,
+//! and fixed first values of the timers).
 //!
-//! It reads no clock and sends nothing: the caller hands in the time and does the acts. `specs/Sessions` has the table, by
-//! state and then by stimulus. `Session::on` is a `match` with an arm for each of its rows; those that the live states share
-//! stand in a second one.
+//! A [`Stimulus`] comes in with the time, in seconds: an order of the operator, a change of the transport, a message
+//! that was judged already, or a timer that is due. [`Session::on`] gives the next state and its timers, and returns
+//! the [`Act`]s that the caller has to do, in their order: messages to send, routes to announce or to forget, the
+//! transport to close. [`Session::due`] says which timer is due first.
+//!
+//! The table of rows is `specs/Sessions`, by state and then by stimulus. `Session::on` is a `match` with an arm for
+//! each row; the rows that OpenSent, OpenConfirm and Established share are in a second `match`. A session in which the
+//! hold time is 0 has no timers once the peer's OPEN was accepted (section 4.2).
+//!
+//! Nothing here reads a clock, reads or writes octets, or knows routes.
 #![tactic(auto)]
 
 mod reaction;
 mod session;
 
-pub use reaction::Reaction;
-pub use session::Session;
-
-#[cfg(test)]
-mod tests;
+pub use reaction::{MAX_ACTS, Reaction};
+pub use session::{OPEN_WAIT, Session};
 
 /// What a session has come to (RFC 4271, section 8.2.2).
 #[derive(Clone, Copy, Debug, PartialEq, Eq)]
@@ -36,7 +40,7 @@ pub enum Stimulus {
     LinkUp,
     /// The transport was lost.
     LinkDown,
-    /// An OPEN that was judged good, with its hold time in seconds and the peer's identifier.
+    /// An OPEN that was accepted, with its hold time in seconds and the peer's identifier.
     OpenGood { hold: u16, id: u32 },
     /// An OPEN in another state than OpenSent.
     OpenLate,
@@ -55,11 +59,11 @@ pub enum Stimulus {
 pub enum Act {
     SendOpen,
     SendKeepalive,
-    /// A NOTIFICATION; the caller adds its data.
+    /// A NOTIFICATION is sent; the caller adds its data.
     SendNotice { code: u8, subcode: u8 },
     /// The session came up: routes may be sent.
     Up,
-    /// The session was up and is not any more: its routes go.
+    /// The session was up and no longer is: the peer's routes are forgotten.
     Down,
     /// The transport is closed, and input that waits is dropped.
     Close,

@@ -1,9 +1,12 @@
-// A session and its timers.
-ghost use Rattle.std.specs.Prelude.{◌≡◌, ◌+◌, ◌/◌, ◌^◌, ◌<◌, ◌≤◌, [], ◌∷◌, length};
-ghost use Rattle.bgp_fsm.specs.Sessions.{Does, start_session, due_in, stay, enter, close, close_with, open_sent, open_confirm, held_on, established, keepalive_sent, live_row, row, due};
+// A session, its timers, and its rows. A private function does the row of the definition that has its name.
+ghost use Rattle.std.specs.Prelude.{◌≡◌, ◌+◌, ◌-◌, ◌/◌, ◌^◌, ◌<◌, ◌≤◌, [], ◌∷◌, length};
+ghost use Rattle.bgp_fsm.specs.Sessions.{Reacts, start_session, due_in, stay, enter, close, close_with, open_sent};
+ghost use Rattle.bgp_fsm.specs.Sessions.{open_confirm, held_on, established, keepalive_sent, live_row, row, due};
 
+use crate::reaction::MAX_ACTS;
 use crate::{Act, Reaction, State, Stimulus, Timer};
 use std::marker::Model;
+use xb_wire::numbers::{CEASE, FSM_ERROR, HOLD_TIMER_EXPIRED, UNSPECIFIC};
 
 /// A session with one peer: its state, its timers, and what the peer's OPEN said. Times are in seconds.
 #[derive(Drop)]
@@ -22,20 +25,22 @@ impl Model for Session {
 
     ghost Value = { Owned };
 
-    ghost view = { λ s. record { own = s.own_hold; session = record { state = s.state; hold_at = s.hold_at; keepalive_at = s.keepalive_at; hold = s.hold; id = s.peer_id } } };
+    ghost view = { λ s. record {
+      own = s.own_hold;
+      session = record {
+        state = s.state;
+        hold_at = s.hold_at;
+        keepalive_at = s.keepalive_at;
+        hold = s.hold;
+        id = s.peer_id;
+      };
+    } };
 }
 
-// How long a peer's OPEN is awaited.
-const OPEN_WAIT: u64 = 240;
+/// How long a peer's OPEN is awaited, in seconds (the large value of RFC 4271, section 8.2.2).
+pub const OPEN_WAIT: u64 = 240;
 
-// The codes of a NOTIFICATION (RFC 4271, section 4.5).
-const HOLD_TIMER_EXPIRED: u8 = 4;
-
-const FSM_ERROR: u8 = 5;
-
-const CEASE: u8 = 6;
-
-// The due time of a timer that waits so long; off where the hold time is 0.
+// When a timer of `wait` seconds, set now, is due. None if the hold time is 0: timers are off.
 fn due_in(hold: u16, now: u64, wait: u16) -> Option<u64>
     requires { now < 2 ^ 32 }
     ensures { result ≡ due_in hold now wait }
@@ -48,7 +53,7 @@ fn due_in(hold: u16, now: u64, wait: u16) -> Option<u64>
 }
 
 impl Session {
-    /// An idle session of a speaker that is configured with that hold time.
+    /// An idle session of a speaker whose configured hold time is `own_hold` seconds.
     pub fn new(own_hold: u16) -> Session
         ensures { result ≡ record { own = own_hold; session = start_session } }
     {
@@ -76,7 +81,7 @@ impl Session {
         self.peer_id
     }
 
-    /// The timer that is due first, with its due time.
+    /// The timer that is due first, with its due time: the hold timer if both are due at once, None if no timer is set.
     #[tactic(auto, unfolding(crate::specs::Sessions::due))]
     pub fn due(&self) -> Option<(u64, Timer)>
         ensures { result ≡ due self.now.session }
@@ -89,12 +94,12 @@ impl Session {
         }
     }
 
-    /// Takes a stimulus at a time on the clock, in seconds. The acts are for the caller to do, in their order.
+    /// Takes a stimulus at the time `now`, in seconds, and returns the acts that the caller has to do, in their order.
     #[tactic(auto, unfolding(crate::specs::Sessions::row))]
     pub fn on(&mut self, now: u64, what: Stimulus) -> Reaction
-        requires { now ≤ 4294967295 }
+        requires { now < 2 ^ 32 }
         ensures acts { result ≡ (row self.old.own self.old.session now what).acts }
-        ensures few { length result ≤ 4 }
+        ensures few { length result ≤ MAX_ACTS }
         ensures after { self.new ≡ record self.old { session = (row self.old.own self.old.session now what).session } }
     {
         use State::{Connect, Established, Idle, OpenConfirm, OpenSent};
@@ -105,31 +110,33 @@ impl Session {
             (Connect, LinkUp) => self.send_open(now),
             (Idle | Connect, _) => Reaction::none(),
             (OpenSent, OpenGood { hold, id }) => self.confirm(now, hold, id),
-            (OpenSent, Keepalive | Update) => self.close_with(FSM_ERROR, 0),
+            (OpenSent, Keepalive | Update) => self.close_with(FSM_ERROR, UNSPECIFIC),
             (OpenConfirm, Keepalive) => self.come_up(now),
-            (OpenConfirm, OpenGood { .. } | OpenLate | Update) => self.close_with(FSM_ERROR, 0),
+            (OpenConfirm, OpenGood { .. } | OpenLate | Update) => self.close_with(
+                FSM_ERROR, UNSPECIFIC,
+            ),
             (Established, Keepalive | Update) => self.hold_on(now),
-            (Established, OpenGood { .. } | OpenLate) => self.close_with(FSM_ERROR, 0),
+            (Established, OpenGood { .. } | OpenLate) => self.close_with(FSM_ERROR, UNSPECIFIC),
             (OpenConfirm | Established, KeepaliveDue) => self.send_keepalive(now),
             _ => self.on_live(what),
         }
     }
 
-    // The rows that the live states share: OpenSent, OpenConfirm and Established.
+    // The rows that OpenSent, OpenConfirm and Established share.
     fn on_live(&mut self, what: Stimulus) -> Reaction
-        ensures { Does (live_row self.old.session what) self.old self.new result }
+        ensures { Reacts (live_row self.old.session what) self.old self.new result }
     {
         match what {
-            Stimulus::Stop => self.close_with(CEASE, 0),
+            Stimulus::Stop => self.close_with(CEASE, UNSPECIFIC),
             Stimulus::LinkDown | Stimulus::Notified => self.close(Reaction::none()),
             Stimulus::Fault { code, subcode } => self.close_with(code, subcode),
-            Stimulus::HoldDue => self.close_with(HOLD_TIMER_EXPIRED, 0),
+            Stimulus::HoldDue => self.close_with(HOLD_TIMER_EXPIRED, UNSPECIFIC),
             _ => Reaction::none(),
         }
     }
 
     fn enter(&mut self, state: State) -> Reaction
-        ensures { Does (enter state self.old.session) self.old self.new result }
+        ensures { Reacts (enter state self.old.session) self.old self.new result }
     {
         self.state = state;
         Reaction::none()
@@ -137,7 +144,7 @@ impl Session {
 
     fn send_open(&mut self, now: u64) -> Reaction
         requires { now < 2 ^ 32 }
-        ensures { Does (open_sent now self.old.session) self.old self.new result }
+        ensures { Reacts (open_sent now self.old.session) self.old self.new result }
     {
         self.state = State::OpenSent;
         self.hold_at = Some(now + OPEN_WAIT);
@@ -147,7 +154,7 @@ impl Session {
 
     fn confirm(&mut self, now: u64, hold: u16, id: u32) -> Reaction
         requires { now < 2 ^ 32 }
-        ensures { Does (open_confirm self.old.own hold id now self.old.session) self.old self.new result }
+        ensures { Reacts (open_confirm self.old.own hold id now self.old.session) self.old self.new result }
     {
         let hold = self.own_hold.min(hold);
         self.state = State::OpenConfirm;
@@ -160,7 +167,7 @@ impl Session {
 
     fn hold_on(&mut self, now: u64) -> Reaction
         requires { now < 2 ^ 32 }
-        ensures { Does (stay (held_on now self.old.session)) self.old self.new result }
+        ensures { Reacts (stay (held_on now self.old.session)) self.old self.new result }
     {
         self.hold_at = due_in(self.hold, now, self.hold);
         Reaction::none()
@@ -168,7 +175,7 @@ impl Session {
 
     fn come_up(&mut self, now: u64) -> Reaction
         requires { now < 2 ^ 32 }
-        ensures { Does (established now self.old.session) self.old self.new result }
+        ensures { Reacts (established now self.old.session) self.old self.new result }
     {
         self.state = State::Established;
         self.hold_on(now).then(Act::Up)
@@ -176,15 +183,15 @@ impl Session {
 
     fn send_keepalive(&mut self, now: u64) -> Reaction
         requires { now < 2 ^ 32 }
-        ensures { Does (keepalive_sent now self.old.session) self.old self.new result }
+        ensures { Reacts (keepalive_sent now self.old.session) self.old self.new result }
     {
         self.keepalive_at = due_in(self.hold, now, self.hold / 3);
         Reaction::none().then(Act::SendKeepalive)
     }
 
     fn close(&mut self, first: Reaction) -> Reaction
-        requires { length first ≤ 2 }
-        ensures { Does (close first self.old.session) self.old self.new result }
+        requires { length first ≤ MAX_ACTS - 2 }
+        ensures { Reacts (close first self.old.session) self.old self.new result }
     {
         let acts = match self.state {
             State::Established => first.then(Act::Down),
@@ -197,7 +204,7 @@ impl Session {
     }
 
     fn close_with(&mut self, code: u8, subcode: u8) -> Reaction
-        ensures { Does (close_with code subcode self.old.session) self.old self.new result }
+        ensures { Reacts (close_with code subcode self.old.session) self.old self.new result }
     {
         self.close(Reaction::none().then(Act::SendNotice { code, subcode }))
     }

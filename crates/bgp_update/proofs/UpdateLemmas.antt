@@ -1,15 +1,12 @@
 -- The parts of an UPDATE join to its body.
-use Rattle.std.proofs.Common.{◌≡◌, ℕ, ◌+◌, ◌≤◌, List, ◌++◌, length, take, drop, Some, sym, ◌∙◌, ap, arith, take-append-drop}
+use Rattle.std.proofs.Common.{◌≡◌, ℕ, ◌+◌, ◌≤◌, List, ◌++◌, length, take, drop, sym, ◌∙◌, ap, arith, take-append-drop}
 use Rattle.std.specs.Prelude.{slice_range}
 use Rattle.xb_words.specs.Octets.{two_at}
 use Rattle.std.proofs.lemmas.List.Folds.{drop_split}
 use Rattle.xb_words.proofs.ListLemmas.{length-slice_range}
-use Rattle.xb_wire.specs.Messages.{Update}
 use Rattle.bgp_update.specs.Joins.{Joins}
 
-some_is : (u v : Update) → Some u ≡ Some v → u ≡ v
-some_is u v e = cc
-
+-- the three parts and the two length fields
 pub parts_join : (body : List ℕ) (w a : ℕ) → two_at body 0 ≡ w → two_at body (2 + w) ≡ a → 4 + w + a ≤ length body
     → Joins body (record { withdrawn = slice_range body 2 (2 + w); section = slice_range body (4 + w) (4 + w + a); nlri = drop (4 + w + a) body })
 parts_join body w a w_is a_is fits =

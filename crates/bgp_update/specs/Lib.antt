@@ -1,4 +1,4 @@
 pub mod Walks
-pub mod Msgs
+pub mod Views
 pub mod Joins
 pub mod Heard

@@ -1,18 +1,19 @@
+// The prefixes of a part of an UPDATE.
 ghost use Rattle.std.specs.Prelude.{◌≡◌, ◌≤◌, length, Some, [], ◌∷◌, IfSome, IfNone};
 ghost use Rattle.xb_words.specs.Octets.{four_at};
 ghost use Rattle.xb_values.specs.Prefixes.{prefix_at, prefix_size};
-ghost use Rattle.bgp_update.specs.Msgs.{prefix_of_result};
+ghost use Rattle.bgp_update.specs.Views.{prefix_step_view};
 ghost use Rattle.bgp_update.specs.Walks.{prefixes_from};
 
 use std::marker::Model;
 use xb_values::Prefix;
 use xb_words::u32_at;
 
-/// A length over 32, or too few octets for it.
+/// The error of octets that begin with no prefix: a length over 32, or fewer octets than it needs.
 #[derive(Clone, Copy, Debug, PartialEq, Eq)]
 pub struct BadPrefix;
 
-/// The prefixes that octets write one after another, in order. Contracts see what is still to come.
+/// The prefixes that octets write, one after another. Contracts see the steps that are still to come.
 #[derive(Drop)]
 pub struct Prefixes<'a> {
     rest: &'a [u8],
@@ -28,7 +29,7 @@ impl<'a> Model for Prefixes<'a> {
     ghost view = { λ p. prefixes_from p.rest.now };
 }
 
-// How many octets the prefix at the front has, where a whole one stands there.
+// How many octets the prefix at the front has, if the octets begin with a whole one.
 fn front_size(octets: &[u8]) -> Option<usize>
     ensures { result ≡ prefix_size octets.now }
 {
@@ -42,7 +43,7 @@ fn front_size(octets: &[u8]) -> Option<usize>
     Some(1 + count)
 }
 
-// The address that begins with up to four octets behind a length.
+// The address whose high octets are the up to four octets after a length; the others are 0.
 fn address_in(octets: &[u8]) -> u32
     requires { length octets.now ≤ 5 }
     ensures { result ≡ four_at octets.now 1 }
@@ -57,16 +58,17 @@ fn address_in(octets: &[u8]) -> u32
 }
 
 impl<'a> Prefixes<'a> {
+    /// The prefixes that `bytes` write.
     pub fn new(bytes: &'a [u8]) -> Prefixes<'a>
         ensures { result ≡ prefixes_from bytes.now }
     {
         Prefixes { rest: bytes }
     }
 
-    /// The next prefix, with its host bits cleared. Nothing comes after a bad one.
-    #[tactic(auto, using(xb_values::proofs::PrefixLemmas::prefix_size_is_size, crate::proofs::WalkLemmas::prefixes_some, crate::proofs::WalkLemmas::prefixes_error, crate::proofs::WalkLemmas::prefixes_nil))]
+    /// The next prefix, with its host bits cleared. Nothing comes after an error.
+    #[tactic(auto, using(crate::proofs::WalkLemmas::prefix_steps))]
     pub fn next(&mut self) -> Option<Result<Prefix, BadPrefix>>
-        ensures item { IfSome result (λ r. self.old ≡ prefix_of_result r ∷ self.new) }
+        ensures item { IfSome result (λ r. self.old ≡ prefix_step_view r ∷ self.new) }
         ensures end { IfNone result ((self.old ≡ []) × (self.new ≡ [])) }
     {
         if self.rest.is_empty() {
@@ -86,7 +88,7 @@ impl<'a> Prefixes<'a> {
     }
 }
 
-// The prefix that a whole item writes.
+// The prefix that the octets of one whole prefix write.
 fn prefix_in(item: &[u8]) -> Option<Prefix>
     requires { prefix_size item.now ≡ Some (length item.now) }
     ensures { result ≡ Some (prefix_at item.now) }

@@ -1,3 +1,4 @@
+// The parts of an UPDATE.
 ghost use Rattle.std.specs.Prelude.{◌≡◌, IfSome};
 ghost use Rattle.xb_wire.specs.Messages.{update_of};
 ghost use Rattle.bgp_update.specs.Joins.{Joins};
@@ -5,7 +6,7 @@ ghost use Rattle.bgp_update.specs.Joins.{Joins};
 use std::marker::Model;
 use xb_words::u16_at;
 
-/// The parts of an UPDATE, each at its place in the body (RFC 4271, section 4.3).
+/// The parts of an UPDATE, each a slice of its body (RFC 4271, section 4.3).
 #[derive(Drop)]
 pub struct UpdateView<'a> {
     withdrawn: &'a [u8],
@@ -22,7 +23,7 @@ impl<'a> Model for UpdateView<'a> {
 }
 
 impl<'a> UpdateView<'a> {
-    /// The parts of a body, or None where its two length fields do not fit it.
+    /// The parts of an UPDATE's body, or None if its two length fields do not fit it.
     pub fn new(body: &'a [u8]) -> Option<UpdateView<'a>>
         ensures parts { result ≡ update_of body.now }
         ensures joins { IfSome result (Joins body.now) }

@@ -1,3 +1,3 @@
 pub mod PackingLemmas
 pub mod MessageLemmas
-pub mod Readings
+pub mod ReadBackLemmas

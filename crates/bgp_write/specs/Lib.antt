@@ -1,3 +1,4 @@
 pub mod Written
 pub mod Packings
 pub mod Packers
+pub mod Pending

@@ -1,17 +1,22 @@
-//! Messages are written into a buffer of fixed capacity, whole and in place, so no call takes memory (RFC 4271, section 4).
+//! Messages as they are written (RFC 4271, section 4).
 //!
-//! It stands on `xb_base`, whose `specs/Messages` says what a message is. `specs/Written` has the octets of an OPEN, a
-//! KEEPALIVE and a NOTIFICATION, and `specs/Packings` what an UPDATE has while prefixes are packed into it: a section, or none,
-//! and the octets of the prefixes so far. `laws` says that what is written is read again.
+//! Values come in, and one whole message goes into a [`xb_values::Buf`] of the caller, whose content it replaces. The
+//! buffer has room for the longest message, so no call takes memory or fails. [`write_open`], [`write_keepalive`] and
+//! [`write_notice`] write a message at once. A [`Packer`] builds an UPDATE in the buffer that it borrows: withdrawn
+//! prefixes alone, or prefixes that are announced with one section of path attributes. It takes prefixes as long as
+//! the message has at most 4,096 octets, and its lengths are written by [`Packer::finish`].
+//!
+//! `xb_wire` has the definition of a message. `specs/Written` has the octets of an OPEN, a KEEPALIVE and a
+//! NOTIFICATION, `specs/Packings` an UPDATE while prefixes are packed into it, and `specs/Pending` which prefixes a
+//! speaker's next UPDATE to a peer has. [`laws`] says that what is written is read again, and how long a packed
+//! message is.
+//!
+//! Path attributes are octets here: which ones a section needs is not known.
 #![tactic(auto)]
 
-mod append;
 mod control;
 pub mod laws;
 mod packer;
 
 pub use control::{write_keepalive, write_notice, write_open};
 pub use packer::Packer;
-
-#[cfg(test)]
-mod tests;

@@ -192,13 +192,15 @@ module _ (allowed : ℕ → Bool) (code : List ℕ) (seconds : List Bool) (i : �
   is_second-get_or : is_second code i ≡ get_or seconds i false
   is_second-get_or = let size = are.size in sym (are.each i false (omega arith))
 
-  -- a second slot, an instruction without a fault, and one with a fault
+  -- a second slot
   pub left-second : get_or seconds i false ≡ true → left (length seconds - i) i ≡ left (length seconds - (i + 1)) (i + 1)
   left-second h = turn ∙ rw (is_second-get_or ∙ h) refl
 
+  -- an instruction without a fault
   pub left-none : get_or seconds i false ≡ false → slot_fault allowed code i ≡ None → left (length seconds - i) i ≡ left (length seconds - (i + 1)) (i + 1)
   left-none h k = turn ∙ rw (is_second-get_or ∙ h, k) refl
 
+  -- an instruction with a fault
   pub left-some : (kind : LoadKind) → get_or seconds i false ≡ false → slot_fault allowed code i ≡ Some kind → left (length seconds - i) i ≡ Some (fault_at i kind)
   left-some kind h k = turn ∙ rw (is_second-get_or ∙ h, k) refl
 
@@ -239,6 +241,7 @@ first_slot_fault-same : (a b : ℕ → Bool) → ((n : ℕ) → a n ≡ b n) →
 first_slot_fault-same a b h code [] = refl
 first_slot_fault-same a b h code (i ∷ is) = rw (slot_fault-same a b h code i, first_slot_fault-same a b h code is) refl
 
+-- and in the whole code
 pub load_fault-same : (a b : ℕ → Bool) → ((n : ℕ) → a n ≡ b n) → (code : List ℕ) → load_fault a code ≡ load_fault b code
 unfolding load_fault
 load_fault-same a b h code = rw (first_slot_fault-same a b h code (starts code)) refl

@@ -82,15 +82,17 @@ module _ {W : Type 0} (help : Helps W) (code : List ℕ) where
       let one : suc n + k ≡ suc (n + k) = omega arith in
       rw one (stays-step k n (stays k n) m w (take_step code m) e)
 
-  -- the fuel is spent by a run, it isn't, and more fuel changes nothing
+  -- a run that spends its fuel
   pub bpf-spent : (memory : Memory) (fuel : ℕ) (w : W) (m : Machine) (v : W) → state_after help code fuel (entry memory) w ≡ Some (m, v) → bpf help code memory fuel w ≡ ended (Failed causes.Fuel) m.memory v
   unfolding bpf
   bpf-spent memory fuel w m v e = spends fuel (entry memory) w m v e
 
+  -- a run that ended earlier has not spent its fuel
   pub bpf-ended : (memory : Memory) (fuel : ℕ) (w : W) → state_after help code fuel (entry memory) w ≡ None → (bpf help code memory fuel w).end ≢ Failed causes.Fuel
   unfolding bpf
   bpf-ended memory fuel w e = ends-before fuel (entry memory) w e
 
+  -- and more fuel changes nothing
   pub bpf-more_fuel : (memory : Memory) (fuel more : ℕ) (w : W) → state_after help code fuel (entry memory) w ≡ None → bpf help code memory (fuel + more) w ≡ bpf help code memory fuel w
   unfolding bpf
   bpf-more_fuel memory fuel more w e = stays more fuel (entry memory) w e

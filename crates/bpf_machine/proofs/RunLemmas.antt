@@ -51,13 +51,15 @@ module _ {W : Type 0} (help : Helps W) (code : List ℕ) (left : ℕ) (regs : Li
       let one : left ≡ suc (left - 1) = omega arith in
       sym (ap (λ n. turns help code n (machine regs memory slot) w) one ∙ ap (λ d. after_step help code (turns help code (left - 1)) (machine regs memory slot) w d) e) ∙ rest
 
-  -- an instruction that goes on, one that ends the program, and one that faults
+  -- an instruction that goes on
   pub turns-Goes : (next : ℕ) → Does (take_step code (machine regs memory slot)) (steps.Goes next) regs after memory new → turns help code (left - 1) (machine after new next) w ≡ whole
   turns-Goes next did = goes_whole (goes (machine after new next)) did
 
+  -- one that ends the program
   pub ended-Ends : (n : ℕ) → Does (take_step code (machine regs memory slot)) (steps.Ends n) regs after memory new → ended (Exit n) new w ≡ whole
   ended-Ends n did = ap (λ (m : Memory). ended (Exit n) m w) did.1 ∙ goes_whole (ends n) did.0
 
+  -- one that faults
   pub ended-Faults : Does (take_step code (machine regs memory slot)) steps.Faults regs after memory new → ended (Failed causes.Memory) new w ≡ whole
   ended-Faults did = ap (λ (m : Memory). ended (Failed causes.Memory) m w) did.1 ∙ goes_whole faults did.0
 
@@ -81,16 +83,18 @@ module _ {W : Type 0} (help : Helps W) (code : List ℕ) (left : ℕ) (regs : Li
         ap (λ (a : CallResult W). after_call (turns help code (left - 1)) (machine after new slot) a a.called) answer_is
         ∙ ap (λ r. given r new) did.1 ∙ ap (λ (m : Memory). given regs m) did.2 ∙ goes_whole (calls number (arguments regs)) did.0
 
-    -- by the helper's result
+    -- a helper that returns a value
     pub turns-Value : (n : ℕ) (later : List ℕ) → was ≡ called.Value n → later ≡ (returned (machine after new slot) left_memory n).regs
         → turns help code (left - 1) (machine later left_memory (slot + 1)) left_world ≡ whole
     turns-Value n later is later_is =
         ap (λ r. turns help code (left - 1) (machine r left_memory (slot + 1)) left_world) later_is
         ∙ ap (λ (c : Called). after_call (turns help code (left - 1)) (machine after new slot) answer c) (sym is) ∙ asked
 
+    -- a helper that passes on to the next program
     pub ended-Next : was ≡ called.Next → ended Next left_memory left_world ≡ whole
     ended-Next is = ap (λ (c : Called). after_call (turns help code (left - 1)) (machine after new slot) answer c) (sym is) ∙ asked
 
+    -- a misuse
     pub ended-Misuse : was ≡ called.Misuse → ended (Failed causes.Misuse) left_memory left_world ≡ whole
     ended-Misuse is = ap (λ (c : Called). after_call (turns help code (left - 1)) (machine after new slot) answer c) (sym is) ∙ asked
 
@@ -105,11 +109,12 @@ module _ (code : List ℕ) (slot : ℕ) (sound : IsSound code slot) (accepted : 
     asks_follows : Follows code slot (calls number (arguments regs))
     asks_follows = subst (λ (d : Did). Follows code slot d) did.0 (Follows-take_step code slot sound accepted here regs memory)
 
-    -- after a call too, and the call is allowed
+    -- after a call too
     pub begins-Calls : IsTrue (begins code (slot + 1))
     unfolding Follows
     begins-Calls = asks_follows.0
 
+    -- and the call is allowed
     pub allowed-Calls : (allowed now : ℕ → Bool) → CallsOnly allowed code → ((n : ℕ) → now n ≡ allowed n) → low 32 (insn_at code slot).imm ≡ raw_imm code slot → IsTrue (now number)
     unfolding Follows
     allowed-Calls allowed now only same low_half =

@@ -12,7 +12,7 @@ use Rattle.bpf_machine.specs.Steps.{Did, goes, reg, operand, computed, jump_step
 use Rattle.bpf_machine.specs.declared.step.Step.{Step}
 use Rattle.bpf_machine.specs.Does.{Does, machine}
 
--- arithmetic on 64 bits, and on the low 32
+-- arithmetic on 64 bits
 pub computed-64 : (i : Insn) (x y c code offset r : ℕ) → c ≡ class i.opcode → c ≡ 7 → code ≡ operation i.opcode → code ≢ 13 → offset ≡ word i.offset → x < 2 ^ 64 → y < 2 ^ 64
     → r ≡ result_of 64 code offset x y → r ≡ computed i x y
 unfolding computed
@@ -21,6 +21,7 @@ computed-64 i x y c code offset r c_is seven code_is ordinary offset_is x_in y_i
     let second : y % 2 ^ 64 ≡ y = mod-eq_of_lt y_in in
     rw (eq-eqb (class i.opcode) 7 (sym c_is ∙ seven), ← code_is, ne_eqb code 13 ordinary, ← offset_is, first, second) r_is
 
+-- arithmetic on the low 32 bits
 pub computed-32 : (i : Insn) (x y c code offset r : ℕ) → c ≡ class i.opcode → c ≢ 7 → code ≡ operation i.opcode → code ≢ 13 → offset ≡ word i.offset
     → r ≡ result_of 32 code offset (low 32 x) (low 32 y) → r ≡ computed i x y
 unfolding computed
@@ -37,7 +38,7 @@ module _ (code regs : List ℕ) (slot : ℕ) (memory : Memory) (i : Insn) (c : �
   unfolding take_step
   take_step-insn_step = ap (λ (x : Insn). insn_step x (machine regs memory slot)) (sym here)
 
-  -- classes ALU and ALU64, JMP and JMP32, LD, LDX, ST, STX
+  -- classes ALU and ALU64
   pub take_step-arithmetic : (c ≡ 4) ⊎ (c ≡ 7) → take_step code (machine regs memory slot) ≡ set_step (machine regs memory slot) i.dst (computed i (reg regs i.dst) (operand regs i)) (slot + 1)
   take_step-arithmetic cases =
       take_step-insn_step ∙ elim cases [
@@ -45,6 +46,7 @@ module _ (code regs : List ℕ) (slot : ℕ) (memory : Memory) (i : Insn) (c : �
         | inr seven ↦ rw (sym c_is ∙ seven) refl
       ]
 
+  -- classes JMP and JMP32
   pub take_step-jump : (c ≡ 5) ⊎ (c ≡ 6) → take_step code (machine regs memory slot) ≡ jump_step (machine regs memory slot) i
   take_step-jump cases =
       take_step-insn_step ∙ elim cases [
@@ -52,14 +54,18 @@ module _ (code regs : List ℕ) (slot : ℕ) (memory : Memory) (i : Insn) (c : �
         | inr six ↦ rw (sym c_is ∙ six) refl
       ]
 
+  -- class LD
   pub take_step-wide : c ≡ 0 → take_step code (machine regs memory slot) ≡ goes (machine (slice_set regs i.dst i.imm) memory (slot + 2))
   take_step-wide zero_c = take_step-insn_step ∙ rw (sym c_is ∙ zero_c) refl
 
+  -- class LDX
   pub take_step-load : c ≡ 1 → take_step code (machine regs memory slot) ≡ load_step (machine regs memory slot) i (load memory (access_address regs i.src i) (access_size i.opcode))
   take_step-load one = take_step-insn_step ∙ rw (sym c_is ∙ one) refl
 
+  -- class ST
   pub take_step-store : c ≡ 2 → take_step code (machine regs memory slot) ≡ store_step (machine regs memory slot) (store memory (access_address regs i.dst i) (access_size i.opcode) i.imm)
   take_step-store two = take_step-insn_step ∙ rw (sym c_is ∙ two) refl
 
+  -- class STX
   pub take_step-register_store : c ≡ 3 → take_step code (machine regs memory slot) ≡ store_step (machine regs memory slot) (store memory (access_address regs i.dst i) (access_size i.opcode) (reg regs i.src))
   take_step-register_store three = take_step-insn_step ∙ rw (sym c_is ∙ three) refl

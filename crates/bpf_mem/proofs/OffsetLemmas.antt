@@ -122,12 +122,13 @@ pub AreOctets-from_range : (s : List ℕ) → ((k : ℕ) → get_or s k 0 < 256)
 AreOctets-from_range [] h = tt
 AreOctets-from_range (b ∷ s) h = (h 0, AreOctets-from_range s (λ k. h (suc k)))
 
--- parts of octets are octets
+-- the front of octets is octets
 pub AreOctets-take : (k : ℕ) (s : List ℕ) → AreOctets s → AreOctets (take k s)
 AreOctets-take zero s h = tt
 AreOctets-take (suc k) [] h = tt
 AreOctets-take (suc k) (b ∷ s) h = (h.0, AreOctets-take k s h.1)
 
+-- the rest of octets is octets
 pub AreOctets-drop : (k : ℕ) (s : List ℕ) → AreOctets s → AreOctets (drop k s)
 AreOctets-drop zero s h = h
 AreOctets-drop (suc k) [] h = tt
@@ -158,18 +159,21 @@ module _ (os window : List ℕ) (m : Memory) (addr n : ℕ) (size : length os �
       let len : at + n - at ≡ n = omega arith in
       rw len (sym ((writable_offset-none os window size addr n h).1 ∙ ap (λ (o : Option ℕ). option_map (λ at. region_part window at n) o) k) ∙ ap (λ (x : Memory). octets_at x addr n) is)
 
-  -- `octets_mut`: the offset, what memory ends as, and the octets that are lent
+  -- `octets_mut`: the offset
   pub writable_offset-there : (o : Option ℕ) (at : ℕ) → o ≡ writable_offset addr n → at ≡ unwrap_or o 0 → IsSome (writable_at m addr n) → writable_offset addr n ≡ Some at
   writable_offset-there o at e f h =
       writable_offset-some os window size addr n (subst (λ (x : Memory). IsSome (writable_at x addr n)) (sym is) h)
       ∙ ap (λ (x : ℕ). Some x) (sym (f ∙ ap (λ (p : Option ℕ). unwrap_or p 0) e))
 
+  -- what memory ends as
   pub memory_of-lent : (at : ℕ) → writable_offset addr n ≡ Some at → (w : List ℕ) → memory_of (overwritten os at w) window ≡ lent m addr n w
   memory_of-lent at h w = memory_of-overwritten os window size addr n at h w ∙ ap (λ (x : Memory). lent x addr n w) is
 
+  -- the octets that are lent
   pub writable_at-region_part : (at : ℕ) (xs : List ℕ) → writable_offset addr n ≡ Some at → xs ≡ take n (drop at os) → writable_at m addr n ≡ Some xs
   writable_at-region_part at xs h e = ap (λ (x : Memory). writable_at x addr n) (sym is) ∙ (IsOffset-writable_offset os window size addr n at h).writable ∙ ap (λ (l : List ℕ). Some l) (sym e)
 
+  -- as many as asked for
   pub length-region_part : (at : ℕ) (xs : List ℕ) → writable_offset addr n ≡ Some at → xs ≡ take n (drop at os) → length xs ≡ n
   length-region_part at xs h e =
       let inside = (IsOffset-writable_offset os window size addr n at h).inside in

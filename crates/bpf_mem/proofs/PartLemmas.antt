@@ -33,32 +33,36 @@ over-back k os at w =
     ap (λ n. drop n os) (let e : k + at + length w ≡ k + (at + length w) = omega arith in e) ∙ sym (drop-drop (at + length w) k os) in
     rw (rest, take-add k at os) (simp append_assoc)
 
--- stack and heap after a write into the front, and after one into the back
+-- the stack after a write into the stack
 pub take-over-front : (k : ℕ) (os : List ℕ) (at : ℕ) (w : List ℕ) → k ≤ length os → at + length w ≤ k → take k (over os at w) ≡ replaced (take k os) at w
 take-over-front k os at w h i =
     let front = length-take-le k os h in
     ap (λ l. take k l) (over-front k os at w h i)
     ∙ take_at (replaced (take k os) at w) (drop k os) k (length-replaced (take k os) at w (omega (arith, front)) ∙ front)
 
+-- the heap after a write into the stack
 pub drop-over-front : (k : ℕ) (os : List ℕ) (at : ℕ) (w : List ℕ) → k ≤ length os → at + length w ≤ k → drop k (over os at w) ≡ drop k os
 drop-over-front k os at w h i =
     let front = length-take-le k os h in
     ap (λ l. drop k l) (over-front k os at w h i)
     ∙ drop_at (replaced (take k os) at w) (drop k os) k (length-replaced (take k os) at w (omega (arith, front)) ∙ front)
 
+-- the stack after a write into the heap
 pub take-over-back : (k : ℕ) (os : List ℕ) (at : ℕ) (w : List ℕ) → k ≤ length os → take k (over os (k + at) w) ≡ take k os
 take-over-back k os at w h =
     ap (λ l. take k l) (over-back k os at w) ∙ take_at (take k os) (replaced (drop k os) at w) k (length-take-le k os h)
 
+-- the heap after a write into the heap
 pub drop-over-back : (k : ℕ) (os : List ℕ) (at : ℕ) (w : List ℕ) → k ≤ length os → drop k (over os (k + at) w) ≡ replaced (drop k os) at w
 drop-over-back k os at w h =
     ap (λ l. drop k l) (over-back k os at w) ∙ drop_at (take k os) (replaced (drop k os) at w) k (length-take-le k os h)
 
--- a part of the front, and one of the back
+-- a part of the front
 pub region_part-take : (k : ℕ) (os : List ℕ) (at n : ℕ) → at + n ≤ k → region_part (take k os) at n ≡ region_part os at n
 region_part-take k os at n h =
     let e : k ≡ at + (k - at) = omega arith in
     ap (λ m. take n (drop at (take m os))) e ∙ ap (λ l. take n l) (drop-take at (k - at) os) ∙ take-take n (k - at) (drop at os) (omega arith)
 
+-- a part of the back
 pub region_part-drop : (k : ℕ) (os : List ℕ) (at n : ℕ) → region_part (drop k os) at n ≡ region_part os (k + at) n
 region_part-drop k os at n = grind (arith, common_steps)

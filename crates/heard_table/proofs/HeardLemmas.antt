@@ -8,63 +8,65 @@ use Rattle.xb_words.specs.Cut.{cut, walk, walk_from, with_offsets}
 use Rattle.xb_words.specs.Table.{with_value, without}
 use Rattle.xb_values.specs.Prefixes.{Sections, prefix_cmp, prefix_at, prefix_size, are_prefixes}
 use Rattle.xb_wire.specs.Messages.{Update, update_parts, lengths_fit, message_kind, message_body, split}
+use Rattle.xb_wire.specs.declared.numbers.TheConstants.{UPDATE}
 use Rattle.bgp_update.specs.Heard.{heard, after_message, after_update, withdrawn_from, announced_in, is_readable, is_refused}
-use Rattle.bgp_update.specs.Walks.{found, messages_from, prefixes_from}
+use Rattle.bgp_update.specs.Walks.{found_message, messages_from, prefixes_from}
 use Rattle.bgp_update.proofs.WalkLemmas.{prefixes_nil}
 use Rattle.heard_table.specs.Steps.{withdraw, announce, parts_step, update_step, message_step, after_messages, or_refused}
 
-abbrev where_whole : {A : Type 0} → Bool → A → Option A
-where_whole b x = if b then Some x else None
+-- the table after octets that are whole
+abbrev if_whole : {A : Type 0} → Bool → A → Option A
+if_whole b x = if b then Some x else None
 
 some_left : (b : ℕ) (rest : List ℕ) → (length (b ∷ rest) == 0) ≡ false
 some_left b rest = eqb-suc-zero (length rest)
 
-withdraw_walk : (at : ℕ) (items : List (List ℕ)) (rest : List ℕ) (table : Sections)
-    → withdraw (walk (λ i. prefix_at) (λ i. tt) at items rest) table ≡ where_whole (length rest == 0) (fold (without prefix_cmp) table (map prefix_at items))
-withdraw_walk at [] [] table = refl
-withdraw_walk at [] (b ∷ rest) table = ap (λ k. where_whole k table) (sym (some_left b rest))
-withdraw_walk at (x ∷ items) rest table = withdraw_walk (at + length x) items rest (without prefix_cmp table (prefix_at x))
+withdraw-walk : (at : ℕ) (items : List (List ℕ)) (rest : List ℕ) (table : Sections)
+    → withdraw (walk (λ i. prefix_at) (λ i. tt) at items rest) table ≡ if_whole (length rest == 0) (fold (without prefix_cmp) table (map prefix_at items))
+withdraw-walk at [] [] table = refl
+withdraw-walk at [] (b ∷ rest) table = ap (λ k. if_whole k table) (sym (some_left b rest))
+withdraw-walk at (x ∷ items) rest table = withdraw-walk (at + length x) items rest (without prefix_cmp table (prefix_at x))
 
-withdraw_is : (octets : List ℕ) (table : Sections) → withdraw (prefixes_from octets) table ≡ where_whole (are_prefixes octets) (withdrawn_from table octets)
+withdraw-prefixes_from : (octets : List ℕ) (table : Sections) → withdraw (prefixes_from octets) table ≡ if_whole (are_prefixes octets) (withdrawn_from table octets)
 unfolding walk_from
-withdraw_is octets table = withdraw_walk 0 (cut prefix_size octets).items (cut prefix_size octets).rest table
+withdraw-prefixes_from octets table = withdraw-walk 0 (cut prefix_size octets).items (cut prefix_size octets).rest table
 
-announce_walk : (at : ℕ) (items : List (List ℕ)) (rest section : List ℕ) (table : Sections)
-    → announce (walk (λ i. prefix_at) (λ i. tt) at items rest) section table ≡ where_whole (length rest == 0) (fold (λ t p. with_value prefix_cmp t p section) table (map prefix_at items))
-announce_walk at [] [] section table = refl
-announce_walk at [] (b ∷ rest) section table = ap (λ k. where_whole k table) (sym (some_left b rest))
-announce_walk at (x ∷ items) rest section table = announce_walk (at + length x) items rest section (with_value prefix_cmp table (prefix_at x) section)
+announce-walk : (at : ℕ) (items : List (List ℕ)) (rest section : List ℕ) (table : Sections)
+    → announce (walk (λ i. prefix_at) (λ i. tt) at items rest) section table ≡ if_whole (length rest == 0) (fold (λ t p. with_value prefix_cmp t p section) table (map prefix_at items))
+announce-walk at [] [] section table = refl
+announce-walk at [] (b ∷ rest) section table = ap (λ k. if_whole k table) (sym (some_left b rest))
+announce-walk at (x ∷ items) rest section table = announce-walk (at + length x) items rest section (with_value prefix_cmp table (prefix_at x) section)
 
-announce_is : (octets section : List ℕ) (table : Sections) → announce (prefixes_from octets) section table ≡ where_whole (are_prefixes octets) (announced_in table octets section)
+announce-prefixes_from : (octets section : List ℕ) (table : Sections) → announce (prefixes_from octets) section table ≡ if_whole (are_prefixes octets) (announced_in table octets section)
 unfolding walk_from
-announce_is octets section table = announce_walk 0 (cut prefix_size octets).items (cut prefix_size octets).rest section table
+announce-prefixes_from octets section table = announce-walk 0 (cut prefix_size octets).items (cut prefix_size octets).rest section table
 
-both_whole : (w n : Bool) (after : Sections) (last : Sections → Sections) → option_and_then (λ t. where_whole n (last t)) (where_whole w after) ≡ where_whole (w && n) (last after)
-both_whole true n after last = refl
-both_whole false n after last = refl
+if_whole-both : (w n : Bool) (after : Sections) (last : Sections → Sections) → option_and_then (λ t. if_whole n (last t)) (if_whole w after) ≡ if_whole (w && n) (last after)
+if_whole-both true n after last = refl
+if_whole-both false n after last = refl
 
-parts_step_is : (u : Update) (table : Sections) → parts_step u table ≡ where_whole (are_prefixes u.withdrawn && are_prefixes u.nlri) (after_update table u)
-parts_step_is u table =
-    ap (option_and_then (announce (prefixes_from u.nlri) u.section)) (withdraw_is u.withdrawn table)
-    ∙ elim (are_prefixes u.withdrawn) as (λ w. option_and_then (announce (prefixes_from u.nlri) u.section) (where_whole w (withdrawn_from table u.withdrawn)) ≡ where_whole (w && are_prefixes u.nlri) (after_update table u)) [
-      | true ↦ announce_is u.nlri u.section (withdrawn_from table u.withdrawn)
+parts_step-if_whole : (u : Update) (table : Sections) → parts_step u table ≡ if_whole (are_prefixes u.withdrawn && are_prefixes u.nlri) (after_update table u)
+parts_step-if_whole u table =
+    ap (option_and_then (announce (prefixes_from u.nlri) u.section)) (withdraw-prefixes_from u.withdrawn table)
+    ∙ elim (are_prefixes u.withdrawn) as (λ w. option_and_then (announce (prefixes_from u.nlri) u.section) (if_whole w (withdrawn_from table u.withdrawn)) ≡ if_whole (w && are_prefixes u.nlri) (after_update table u)) [
+      | true ↦ announce-prefixes_from u.nlri u.section (withdrawn_from table u.withdrawn)
       | false ↦ refl
     ]
 
-update_step_is : (body : List ℕ) (table : Sections) → update_step body table ≡ where_whole (is_readable body) (after_update table (update_parts body))
+update_step-if_whole : (body : List ℕ) (table : Sections) → update_step body table ≡ if_whole (is_readable body) (after_update table (update_parts body))
 unfolding update_step
-update_step_is body table =
+update_step-if_whole body table =
     elim (lengths_fit body) as (λ b. option_and_then (λ u. parts_step u table) (if b then Some (update_parts body) else None)
-    ≡ where_whole (b && are_prefixes (update_parts body).withdrawn && are_prefixes (update_parts body).nlri) (after_update table (update_parts body))) [
-      | true ↦ parts_step_is (update_parts body) table
+    ≡ if_whole (b && are_prefixes (update_parts body).withdrawn && are_prefixes (update_parts body).nlri) (after_update table (update_parts body))) [
+      | true ↦ parts_step-if_whole (update_parts body) table
       | false ↦ refl
     ]
 
-message_step_is : (at : ℕ) (m : List ℕ) (table : Sections) → message_step (found at m) table ≡ where_whole (not (is_refused m)) (after_message table m)
-message_step_is at m table =
-    elim (message_kind m == 2) as (λ k. (if k then update_step (message_body m) table else Some table)
-    ≡ where_whole (not (k && not (is_readable (message_body m)))) (if k then after_update table (update_parts (message_body m)) else table)) [
-      | true ↦ update_step_is (message_body m) table ∙ ap (λ b. where_whole b (after_update table (update_parts (message_body m)))) (twice (is_readable (message_body m)))
+message_step-if_whole : (at : ℕ) (m : List ℕ) (table : Sections) → message_step (found_message at m) table ≡ if_whole (not (is_refused m)) (after_message table m)
+message_step-if_whole at m table =
+    elim (message_kind m == UPDATE) as (λ k. (if k then update_step (message_body m) table else Some table)
+    ≡ if_whole (not (k && not (is_readable (message_body m)))) (if k then after_update table (update_parts (message_body m)) else table)) [
+      | true ↦ update_step-if_whole (message_body m) table ∙ ap (λ b. if_whole b (after_update table (update_parts (message_body m)))) (twice (is_readable (message_body m)))
       | false ↦ refl
     ]
   where
@@ -80,29 +82,29 @@ refused_in at end items rest table =
       | None ↦ if length rest == 0 then Ok (fold after_message table items) else Err end
     ]
 
-by_messages : (at : ℕ) (items : List (List ℕ)) (rest : List ℕ) (table : Sections)
-    → after_messages (walk found (λ i. i) at items rest) table ≡ refused_in at (at + length (concat items)) items rest table
-by_messages at [] [] table = refl
-by_messages at [] (b ∷ rest) table =
+after_messages-walk : (at : ℕ) (items : List (List ℕ)) (rest : List ℕ) (table : Sections)
+    → after_messages (walk found_message (λ i. i) at items rest) table ≡ refused_in at (at + length (concat items)) items rest table
+after_messages-walk at [] [] table = refl
+after_messages-walk at [] (b ∷ rest) table =
     let here : at ≡ at + 0 = omega arith in
     ap Err here ∙ ap (λ k. if k then Ok table else Err (at + 0)) (sym (some_left b rest))
-by_messages at (m ∷ items) rest table =
+after_messages-walk at (m ∷ items) rest table =
     let end : at + length m + length (concat items) ≡ at + length (m ++ concat items) = omega (arith, length-append m (concat items)) in
-    ap (λ o. or_refused at (option_map (after_messages (walk found (λ i. i) (at + length m) items rest)) o)) (message_step_is at m table)
-    ∙ elim (is_refused m) as (λ b. or_refused at (option_map (after_messages (walk found (λ i. i) (at + length m) items rest)) (where_whole (not b) (after_message table m)))
+    ap (λ o. or_refused at (option_map (after_messages (walk found_message (λ i. i) (at + length m) items rest)) o)) (message_step-if_whole at m table)
+    ∙ elim (is_refused m) as (λ b. or_refused at (option_map (after_messages (walk found_message (λ i. i) (at + length m) items rest)) (if_whole (not b) (after_message table m)))
     ≡ elim (cond b (Some (at, m)) (find (λ x. is_refused x.1) (with_offsets (at + length m) items))) [
       | Some x ↦ Err x.0
       | None ↦ if length rest == 0 then Ok (fold after_message (after_message table m) items) else Err (at + length (m ++ concat items))
     ]) [
       | true ↦ refl
-      | false ↦ by_messages (at + length m) items rest (after_message table m) ∙ ap (λ e. refused_in (at + length m) e items rest (after_message table m)) end
+      | false ↦ after_messages-walk (at + length m) items rest (after_message table m) ∙ ap (λ e. refused_in (at + length m) e items rest (after_message table m)) end
     ]
 
--- all steps together are the table of the stream, or the place where it is refused
+-- all steps together are the table of the stream, or the offset at which it is refused
 pub heard_by_steps : (s : List ℕ) → after_messages (messages_from 0 s) [] ≡ heard s
 unfolding walk_from heard
 heard_by_steps s =
-    by_messages 0 (split s).items (split s).rest []
+    after_messages-walk 0 (split s).items (split s).rest []
     ∙ by_refusal (find (λ m. is_refused m.1) (with_offsets 0 (split s).items)) (length (split s).rest == 0) (fold after_message [] (split s).items) (length (concat (split s).items))
   where
     by_refusal : (o : Option (ℕ × List ℕ)) (b : Bool) (table : Sections) (end : ℕ)

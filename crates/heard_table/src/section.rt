@@ -1,3 +1,4 @@
+// The octets of a section, owned by all prefixes that share it.
 ghost use Rattle.std.specs.Prelude.{◌≡◌, IfOk};
 
 use std::alloc::{AllocError, Global};
@@ -19,6 +20,7 @@ impl Model for Section {
 }
 
 impl Section {
+    /// A copy of the octets. It fails only if there is no memory.
     pub fn copy_of(alloc: Global, octets: &[u8]) -> Result<Section, AllocError>
         ensures { IfOk result (λ s. s ≡ octets.now) }
     {
@@ -26,7 +28,7 @@ impl Section {
         Ok(Section { octets })
     }
 
-    /// The same octets, not copied.
+    /// The same octets, not copied. It fails only if there is no memory.
     pub fn share(&self) -> Result<Section, AllocError>
         ensures { IfOk result (λ s. s ≡ self.now) }
     {

@@ -1,10 +1,11 @@
+// The table, and how it is made from a stream.
 ghost use Rattle.std.specs.Prelude.{◌≡◌, IfOk, Some, None, if◌then◌else◌};
 ghost use Rattle.std.specs.Option.{option_map};
 ghost use Rattle.xb_words.specs.Table.{entry_after, IsRising};
 ghost use Rattle.xb_values.specs.Prefixes.{prefix_cmp};
 ghost use Rattle.bgp_update.specs.Heard.{heard as heard_of};
 ghost use Rattle.bgp_update.specs.Walks.{prefixes_from};
-ghost use Rattle.heard_table.specs.Gives.{Gives};
+ghost use Rattle.heard_table.specs.Gives.{GivesTable};
 ghost use Rattle.heard_table.specs.Steps.{announce as announced, update_step, withdraw as withdrawn};
 
 use crate::section::Section;
@@ -15,8 +16,7 @@ use std::marker::Model;
 use std::ops::Bound;
 use thiserror::Error;
 use xb_values::Prefix;
-
-const UPDATE: u8 = 2;
+use xb_wire::numbers::UPDATE;
 
 /// Why there is no table of a stream.
 #[derive(Clone, Copy, Debug, PartialEq, Eq, Error)]
@@ -46,19 +46,21 @@ impl Model for Table {
 }
 
 impl Table {
-    /// The first prefix behind that one, or the first of all, with its section.
+    /// The first prefix after the one given, or the first of all if none is given, with its section. None after the
+    /// last.
     pub fn after(&self, after: Option<Prefix>) -> Option<(Prefix, &[u8])>
         ensures entry { option_map (λ e. (e.0, e.1.now)) result ≡ entry_after prefix_cmp self.now after }
         ensures rising { IsRising prefix_cmp self.now }
     {
         let (prefix, section) = match after {
             None => first_of(&self.sections)?,
-            Some(prefix) => first_behind(&self.sections, prefix)?,
+            Some(prefix) => first_after(&self.sections, prefix)?,
         };
         Some((*prefix, section.as_slice()))
     }
 }
 
+// The first entry.
 fn first_of(sections: &Sections) -> Option<(&Prefix, &Section)>
     ensures entry { option_map (λ e. (e.0.now, e.1.now)) result ≡ entry_after prefix_cmp sections.now.entries None }
     ensures rising { IsRising prefix_cmp sections.now.entries }
@@ -66,8 +68,10 @@ fn first_of(sections: &Sections) -> Option<(&Prefix, &Section)>
     sections.iter().next()
 }
 
-fn first_behind(sections: &Sections, prefix: Prefix) -> Option<(&Prefix, &Section)>
-    ensures entry { option_map (λ e. (e.0.now, e.1.now)) result ≡ entry_after prefix_cmp sections.now.entries (Some prefix) }
+// The first entry after a prefix.
+fn first_after(sections: &Sections, prefix: Prefix) -> Option<(&Prefix, &Section)>
+    ensures entry { option_map (λ e. (e.0.now, e.1.now)) result
+        ≡ entry_after prefix_cmp sections.now.entries (Some prefix) }
     ensures rising { IsRising prefix_cmp sections.now.entries }
 {
     sections
@@ -75,9 +79,10 @@ fn first_behind(sections: &Sections, prefix: Prefix) -> Option<(&Prefix, &Sectio
         .next()
 }
 
-// Removes the prefixes, and answers whether all were whole.
+// Removes the prefixes that octets write. False if the octets are not prefixes to the end.
 fn withdraw(sections: &mut Sections, octets: &[u8]) -> bool
-    ensures { withdrawn (prefixes_from octets.now) sections.old.entries ≡ (if result then Some sections.new.entries else None) }
+    ensures { withdrawn (prefixes_from octets.now) sections.old.entries
+        ≡ (if result then Some sections.new.entries else None) }
 {
     let mut prefixes = Prefixes::new(octets);
     'prefixes: while let Some(next) = prefixes.next() {
@@ -89,7 +94,7 @@ fn withdraw(sections: &mut Sections, octets: &[u8]) -> bool
     true
 }
 
-// Enters the section at the prefixes, and answers whether all were whole.
+// Enters the section at the prefixes that octets write. False if the octets are not prefixes to the end.
 #[tactic(auto, using(crate::proofs::HeardLemmas::announce_nothing))]
 fn announce(
     alloc: Global,
@@ -97,7 +102,9 @@ fn announce(
     octets: &[u8],
     section: &[u8],
 ) -> Result<bool, AllocError>
-    ensures { IfOk result (λ whole. announced (prefixes_from octets.now) section.now sections.old.entries ≡ (if whole then Some sections.new.entries else None)) }
+    ensures { IfOk result
+        (λ whole. announced (prefixes_from octets.now) section.now sections.old.entries
+        ≡ (if whole then Some sections.new.entries else None)) }
 {
     if octets.is_empty() {
         return Ok(true);
@@ -113,10 +120,12 @@ fn announce(
     Ok(true)
 }
 
-// Applies an UPDATE, and answers whether it was whole.
+// Applies an UPDATE. False if it cannot be read.
 #[tactic(auto, unfolding(crate::specs::Steps::update_step))]
 fn update(alloc: Global, sections: &mut Sections, body: &[u8]) -> Result<bool, AllocError>
-    ensures { IfOk result (λ whole. update_step body.now sections.old.entries ≡ (if whole then Some sections.new.entries else None)) }
+    ensures { IfOk result
+        (λ whole. update_step body.now sections.old.entries
+        ≡ (if whole then Some sections.new.entries else None)) }
 {
     let Some(update) = UpdateView::new(body) else {
         return Ok(false);
@@ -127,10 +136,11 @@ fn update(alloc: Global, sections: &mut Sections, body: &[u8]) -> Result<bool, A
     announce(alloc, sections, update.nlri(), update.section())
 }
 
-/// The table of a stream of whole messages. Messages other than UPDATE change nothing, and path attributes are not judged.
+/// The table of a stream of whole messages. Messages other than UPDATE change nothing, and path attributes are not
+/// judged. The memory that it takes grows in proportion to the stream.
 #[tactic(auto, using(crate::proofs::HeardLemmas::heard_by_steps))]
 pub fn heard(alloc: Global, bytes: &[u8]) -> Result<Table, HeardError>
-    ensures { Gives result (heard_of bytes.now) }
+    ensures { GivesTable result (heard_of bytes.now) }
 {
     let mut sections = BTreeMap::new(alloc);
     let mut messages = Messages::new(bytes);

@@ -1,6 +1,26 @@
-//! Tests that cross crates: what `bgp_write` writes is read again by `bgp_frame`, `bgp_open` and `bgp_check`, whatever the
-//! pieces are in which it comes. There is nothing here but these tests.
+//! Tests of the crates of BGP that cross crates, and tests that those crates would otherwise have themselves: a session
+//! that comes up and expires, messages that come in pieces, messages as they are written, and what `bgp_write` writes,
+//! read again by `bgp_frame`, `bgp_open` and `bgp_check`, whatever the pieces are in which it comes.
+//!
+//! The only function is a small caller, whose proof shows that the contracts of those crates fit together.
 #![tactic(auto)]
+
+ghost use Rattle.std.specs.Prelude.{◌≡◌, None, IfSome};
+ghost use Rattle.bgp_open.specs.Opens.{judge_open};
+
+use bgp_frame::{Frames, Next};
+use bgp_open::{OpenSeen, OpenWant, read_open};
+use xb_wire::numbers::OPEN;
+
+/// Removes the first message that waits, and returns what it says if it is an OPEN that is accepted.
+pub fn next_open(frames: &mut Frames, want: &OpenWant) -> Option<OpenSeen>
+    ensures { IfSome result (λ o. judge_open frames.new.body want.now.peer_as ≡ None) }
+{
+    match frames.next() {
+        Next::Whole { kind: OPEN, .. } => read_open(frames.body(), want).ok(),
+        _ => None,
+    }
+}
 
 #[cfg(test)]
 mod tests;

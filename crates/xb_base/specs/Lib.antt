@@ -5,6 +5,7 @@ pub use Rattle.xb_values.specs.Buffers
 pub use Rattle.xb_values.specs.Parts
 pub use Rattle.xb_wire.specs.Messages
 pub use Rattle.xb_wire.specs.Headers
+pub use Rattle.xb_wire.specs.Fronts
 pub use Rattle.xb_wire.specs.Views as WireViews
 pub use Rattle.xb_io.specs.Causes
 pub use Rattle.xb_io.specs.Memories

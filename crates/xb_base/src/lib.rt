@@ -15,4 +15,4 @@ pub use xb_values::{
     append_prefix, push_decimal, push_dotted, push_hex, push_prefix, read_decimal, read_dotted,
     read_prefix, split_once,
 };
-pub use xb_wire::{HeaderFault, Notice, fault_in_header, laws, numbers};
+pub use xb_wire::{HeaderFault, Next, Notice, fault_in_header, front_of, laws, numbers};

@@ -1,3 +1,4 @@
 pub mod Messages
 pub mod Headers
 pub mod Views
+pub mod Fronts

@@ -10,10 +10,12 @@
 //! of messages are read and written by bgp_update, bgp_open and bgp_write.
 #![tactic(auto)]
 
+mod front;
 mod header;
 pub mod laws;
 mod notice;
 pub mod numbers;
 
+pub use front::{Next, front_of};
 pub use header::{HeaderFault, fault_in_header};
 pub use notice::Notice;

@@ -5,7 +5,7 @@ use Rattle.xb_values.specs.Prefixes.{Prefix, Sections}
 use Rattle.xb_values.specs.Texts.{line, prefix_text, hex_text}
 use Rattle.xb_wire.specs.Messages.{split}
 use Rattle.bgp_update.specs.Heard.{heard}
-use Rattle.bgp_update.specs.Walks.{Found, found}
+use Rattle.bgp_update.specs.Walks.{FoundMessage, found_message}
 use Rattle.bgp_check.specs.Judgement.{judge}
 use Rattle.xb_words.specs.Cut.{with_offsets}
 use Rattle.std.specs.List.{concat}
@@ -91,15 +91,15 @@ abbrev pub heard_answer : List ℕ → Answer
 heard_answer octets = elim (heard octets) [ Ok table ↦ answered Done (table_lines table ++ end_line) | Err at ↦ bad_stream at ]
 
 -- the messages of a stream, each with its place
-abbrev pub messages_of : List ℕ → List Found
-messages_of s = map (λ m. found m.0 m.1) (with_offsets 0 (split s).items)
+abbrev pub messages_of : List ℕ → List FoundMessage
+messages_of s = map (λ m. found_message m.0 m.1) (with_offsets 0 (split s).items)
 
 -- the place of what is left of a stream behind its messages, if anything is
 abbrev pub place_of_rest : List ℕ → Option ℕ
 place_of_rest s = if length (split s).rest == 0 then None else Some (length (concat (split s).items))
 
 -- what is said of a message: an UPDATE is clean or gets a notification, another kind is not judged
-abbrev pub verdict : Found → List (List ℕ)
+abbrev pub verdict : FoundMessage → List (List ℕ)
 verdict m =
     if m.kind == 2 then
     elim (judge 2 m.body) as (λ o. List (List ℕ)) [
@@ -109,7 +109,7 @@ verdict m =
     else codes "other" ∷ []
 
 -- a message's place, and what is said of it
-abbrev pub judge_line : Found → List ℕ
+abbrev pub judge_line : FoundMessage → List ℕ
 judge_line m = line (decimal m.at ∷ verdict m)
 
 -- a line for each message of a stream, or the place of what is left behind them

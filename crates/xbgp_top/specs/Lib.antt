@@ -6,4 +6,3 @@ pub mod Inputs
 pub mod Outputs
 pub mod Top
 pub mod Shown
-pub mod Met

@@ -2,7 +2,7 @@ ghost use Rattle.std.specs.Prelude.{◌≡◌, ◌≤◌, ◌++◌, ◌∷◌, [
 ghost use Rattle.xb_values.specs.Texts.{hex_text, line as line_of};
 ghost use Rattle.xbgp_top.specs.Answers.{answered, end_line, judge_answer, judge_line, messages_of, place_of_rest};
 ghost use Rattle.xbgp_top.specs.Outputs.{Gathers, Writes};
-ghost use Rattle.xbgp_top.specs.Met.{met};
+ghost use Rattle.bgp_update.specs.Views.{message_view};
 
 use crate::Status;
 use crate::output::{LINE, PAGE, begin_line, gather_text, refuse_stream, say};
@@ -66,7 +66,7 @@ fn write_notice(
 
 // Writes the verdict on a message.
 fn write_verdict(alloc: Global, line: &mut Buf, message: &Msg<'_>) -> Result<(), AllocError>
-    ensures { OnOk result (line.new.octets ≡ judge_line (met message.now)) }
+    ensures { OnOk result (line.new.octets ≡ judge_line (message_view message.now)) }
 {
     if message.kind != UPDATE {
         return write_word(alloc, line, message.at, b"other");
@@ -85,7 +85,7 @@ fn gather_verdict<K: Sink>(
     page: &mut Buf,
     sink: &mut K,
 ) -> Result<(), Status>
-    ensures { Gathers (K.took sink.old) (K.took sink.new) page.old.octets page.new.octets (judge_line (met message.now)) (K.faults sink.old) (K.faults sink.new) result }
+    ensures { Gathers (K.took sink.old) (K.took sink.new) page.old.octets page.new.octets (judge_line (message_view message.now)) (K.faults sink.old) (K.faults sink.new) result }
 {
     match write_verdict(alloc, line, message) {
         Ok(()) => gather_text(page, line.as_slice(), sink),

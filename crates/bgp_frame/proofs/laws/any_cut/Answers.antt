@@ -1,6 +1,6 @@
 use Rattle.std.proofs.Common.{ap}
 use Rattle.bgp_frame.specs.Pieces.{Taken}
-use Rattle.bgp_frame.proofs.Cuts.{fed-split}
+use Rattle.bgp_frame.proofs.PieceLemmas.{fed-split}
 use Rattle.bgp_frame.proofs.laws.any_cut.Goals as goal
 
 pub returns-clause-messages : goal.returns-clause-messages

@@ -1,12 +1,12 @@
 use Rattle.std.proofs.Common.{ap, ◌∙◌}
 use Rattle.xb_values.specs.Buffers.{Buffer}
 use Rattle.bgp_write.proofs.MessageLemmas.{is_message_along}
-use Rattle.bgp_write.proofs.PackingLemmas.{sealed_is, sealed_is_message}
+use Rattle.bgp_write.proofs.PackingLemmas.{sealed-packed_message, sealed_is_message}
 use Rattle.bgp_write.proofs.packer.Packer.finish.Goals as goal
 
 pub returns-clause-written : goal.returns-clause-written
 returns-clause-written c =
-    c.seal.ensures ∙ ap (λ o. record c.args.self.out.now { octets = o }) (sealed_is c.args.self.withdraws c.args.self.start c.args.self.out.now c.args.self.sound)
+    c.seal.ensures ∙ ap (λ o. record c.args.self.out.now { octets = o }) (sealed-packed_message c.args.self.withdraws c.args.self.start c.args.self.out.now c.args.self.sound)
 
 pub returns-clause-message : goal.returns-clause-message
 returns-clause-message c =
