@@ -22,10 +22,10 @@ pub file_named_in_entries : (es : List (String Global × Vec ℕ Global)) (name 
 file_named_in_entries [] name = refl
 file_named_in_entries (e ∷ es) name =
     ap (λ (b : Bool). cond b (Some e.1.items) (file_named (files_of es) name))
-        (sym (is_eq-slice_cmp name (string_bytes e.0)))
+    (sym (is_eq-slice_cmp name (string_bytes e.0)))
     ∙ elim (is_eq (slice_cmp nat_cmp name (string_bytes e.0))) as
-        (λ b. cond b (Some e.1.items) (file_named (files_of es) name)
-        ≡ option_map (λ v. v.items) (cond b (Some e.1) (named es name))) [
+    (λ b. cond b (Some e.1.items) (file_named (files_of es) name)
+    ≡ option_map (λ v. v.items) (cond b (Some e.1) (named es name))) [
       | true ↦ refl
       | false ↦ file_named_in_entries es name
     ]
@@ -37,7 +37,7 @@ HoldsAlso-insert old new name octets updates = λ other.
     file_named_in_entries new.entries other
     ∙ ap (option_map (λ v. v.items)) (btree_map_updates_text name old new (Some octets) updates other)
     ∙ elim (bytes_eq name other) as (λ b. option_map (λ v. v.items) (cond b (Some octets) (get_by_text old other))
-        ≡ cond b (Some octets.items) (file_named (files_of old.entries) other)) [
+    ≡ cond b (Some octets.items) (file_named (files_of old.entries) other)) [
       | true ↦ refl
       | false ↦ sym (file_named_in_entries old.entries other)
     ]

@@ -28,22 +28,27 @@ then_text before now later xs ys e f =
 front_after : (before now later : Option (List ℕ)) (taken text rest : List ℕ) → now ≡ with_text before taken
     → TookFront now later text → TookFront before later (taken ++ (text ++ rest))
 front_after before now later taken text rest e front =
-    let cut = front_within taken text rest front.0 in (cut.0, then_text before now later taken (take front.0 text) e
-        front.1 ∙ ap (with_text before) cut.1)
+    let cut = front_within taken text rest front.0 in (
+      cut.0,
+      then_text before now later taken (take front.0 text) e
+          front.1 ∙ ap (with_text before) cut.1,
+    )
   where
     front_within : (taken text rest : List ℕ) (n : ℕ)
         → (m : ℕ) × (taken ++ take n text ≡ take m (taken ++ (text ++ rest)))
     front_within taken text rest n = elim (cases_lt n (length text)) [
       | inl short ↦
-          let within : n ≤ length text = omega arith in
-          (length taken + n, sym (take-append-add taken (text ++ rest) n
-              ∙ ap (λ l. taken ++ l) (take-append-le n text rest within)))
+          let within : n ≤ length text = omega arith in (
+            length taken + n,
+            sym (take-append-add taken (text ++ rest) n
+                ∙ ap (λ l. taken ++ l) (take-append-le n text rest within)),
+          )
       | inr long ↦
           let itself : length text ≤ length text = omega arith in (
             length taken + length text,
             ap (λ l. taken ++ l) (take_all n text long)
                 ∙ sym (take-append-add taken (text ++ rest) (length text)
-                    ∙ ap (λ l. taken ++ l) (take-append-le (length text) text rest itself ∙ take-length text)),
+                ∙ ap (λ l. taken ++ l) (take-append-le (length text) text rest itself ∙ take-length text)),
           )
     ]
 
@@ -64,7 +69,7 @@ module _ {K : Type 0} (took : K → Option (List ℕ)) (faults : K → ℕ) wher
         joins = append_assoc g.taken h.taken (next ++ rest)
             ∙ ap (λ l. g.taken ++ l)
             (sym (append_assoc h.taken next rest) ∙ ap (λ l. l ++ rest)
-                (ap (λ l. h.taken ++ l) (sym (append-nil next)) ∙ h.joins) ∙ append_assoc page text rest)
+            (ap (λ l. h.taken ++ l) (sym (append-nil next)) ∙ h.joins) ∙ append_assoc page text rest)
             ∙ g.joins;
         quiet = h.quiet ∙ g.quiet;
       }
@@ -75,11 +80,11 @@ module _ {K : Type 0} (took : K → Option (List ℕ)) (faults : K → ℕ) wher
       → Stops took faults old new whole halt
   stops_then old mid new whole page text rest halt g s =
       let all : g.taken ++ ((page ++ text) ++ rest) ≡ whole = ap (λ l. g.taken ++ l) (append_assoc page text rest)
-          ∙ g.joins in
+      ∙ g.joins in
       record {
         front =
             subst (λ w. TookFront (took old) (took new) w) all
-                (front_after (took old) (took mid) (took new) g.taken (page ++ text) rest g.took_taken s.front);
+            (front_after (took old) (took mid) (took new) g.taken (page ++ text) rest g.took_taken s.front);
         fault = λ e. subst (λ (n : ℕ). FaultsRose n (faults new)) g.quiet (s.fault e);
         later = omega (arith, g.quiet, s.later);
       }
@@ -93,7 +98,7 @@ module _ {K : Type 0} (took : K → Option (List ℕ)) (faults : K → ℕ) wher
         took_taken = g.took_taken;
         joins = ap (λ l. g.taken ++ (page ++ l)) (append-nil text)
             ∙ sym (append_assoc g.taken page text) ∙ ap (λ l. l ++ text)
-                (ap (λ l. g.taken ++ l) (sym (append-nil page)) ∙ g.joins);
+            (ap (λ l. g.taken ++ l) (sym (append-nil page)) ∙ g.joins);
         quiet = g.quiet;
       }
 
@@ -104,11 +109,11 @@ module _ {K : Type 0} (took : K → Option (List ℕ)) (faults : K → ℕ) wher
   gathers_then old mid new page middle next first second (Ok done) one two =
       subst (λ w. Gathered took faults old new w next []) (append_assoc page first second)
       (gathered_then old mid new ((page ++ first) ++ second) middle next second []
-          (gathered_more old mid (page ++ first) middle second one) two)
+      (gathered_more old mid (page ++ first) middle second one) two)
   gathers_then old mid new page middle next first second (Err halt) one two =
       subst (λ w. Stops took faults old new w halt) (append_assoc page first second)
       (stops_then old mid new ((page ++ first) ++ second) middle second [] halt
-          (gathered_more old mid (page ++ first) middle second one) two)
+      (gathered_more old mid (page ++ first) middle second one) two)
 
   -- what ended early in the first of two texts ended early in both
   pub stops_append : (old new : K) (page first second : List ℕ) (halt : Halt)
@@ -147,7 +152,7 @@ module _ {K : Type 0} (took : K → Option (List ℕ)) (faults : K → ℕ) wher
           record {
             front =
                 subst (λ w. TookFront (took old) (took new) w) g.joins
-                    (front_after (took old) (took mid) (took new) g.taken page [] g.took_taken s.front);
+                (front_after (took old) (took mid) (took new) g.taken page [] g.took_taken s.front);
             fault = λ e. subst (λ (n : ℕ). FaultsRose n (faults new)) g.quiet (s.fault e);
             later = omega (arith, g.quiet, s.later);
           }
@@ -161,8 +166,13 @@ module _ {K : Type 0} (took : K → Option (List ℕ)) (faults : K → ℕ) wher
   pub gathers_past_page : (old new : K) (next text : List ℕ) (end : Result (Unit {0}) Halt) → next ≡ []
       → Puts took faults old new text end → Gathers took faults old new [] next text end
   gathers_past_page old new next text (Ok done) empty p =
-      record { taken = text; took_taken = p.0; joins = ap (λ l. text ++ (l ++ [])) empty
-          ∙ append-nil text; quiet = p.1 }
+      record {
+        taken = text;
+        took_taken = p.0;
+        joins = ap (λ l. text ++ (l ++ [])) empty
+            ∙ append-nil text;
+        quiet = p.1;
+      }
   gathers_past_page old new next text (Err halt) empty s = s
 
   -- the page was written, and then a text was gathered on an empty page, or that ended early
@@ -186,7 +196,7 @@ module _ {K : Type 0} (took : K → Option (List ℕ)) (faults : K → ℕ) wher
           record {
             front =
                 subst (λ w. TookFront (took old) (took new) w) (ap (λ l. page ++ l) (append-nil text))
-                    (front_after (took old) (took mid) (took new) page text [] p.0 s.front);
+                (front_after (took old) (took mid) (took new) page text [] p.0 s.front);
             fault = λ r. subst (λ (n : ℕ). FaultsRose n (faults new)) p.1 (s.fault r);
             later = omega (arith, p.1, s.later);
           }
@@ -197,4 +207,4 @@ module _ {K : Type 0} (took : K → Option (List ℕ)) (faults : K → ℕ) wher
       → Gathers took faults old new page next text result
   gathers_failed_put old new page shown next text halt result same is s =
       gathers_stopped old new page next text halt result is
-          (stops_append old new [] page text halt (subst (λ l. Stops took faults old new l halt) same s))
+      (stops_append old new [] page text halt (subst (λ l. Stops took faults old new l halt) same s))

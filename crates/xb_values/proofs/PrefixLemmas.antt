@@ -14,8 +14,12 @@ cleared-cleared a s h = ap (λ (q : ℕ). q * s) (mul-div_cancel (a / s) h)
 -- `prefix_of` gives prefixes
 pub prefix_of_is_prefix : (addr len : ℕ) → addr < 2 ^ 32 → len ≤ 32 → IsPrefix (prefix_of addr len)
 prefix_of_is_prefix addr len word short =
-    record { len = short; addr = omega (arith, div-mul-le_self addr (2 ^ (32 - len))); clear = cleared-cleared addr
-        (2 ^ (32 - len)) (pow_pos (32 - len)) }
+    record {
+      len = short;
+      addr = omega (arith, div-mul-le_self addr (2 ^ (32 - len)));
+      clear = cleared-cleared addr
+          (2 ^ (32 - len)) (pow_pos (32 - len));
+    }
 
 -- a prefix has at least its length, and does not pass the end
 pub prefix_size_is_size : IsSize prefix_size

@@ -77,7 +77,7 @@ value_after-is value (c ∷ text) fits =
             | inr big ↦
                 let grows = number_after_ge 10 next (map (λ c. c - 48) text) (omega arith) in
                 let passes : nat_le (number_from_digits_after 10 next (map (λ c. c - 48) text)) (2 ^ 64 - 1)
-                    ≡ false = lt-leb _ _ (omega (arith, leb-false _ _ big)) in
+                ≡ false = lt-leb _ _ (omega (arith, leb-false _ _ big)) in
                 rw (digit, big) (sym (cond-false _ _ None (and_right (list_all is_digit text) _ passes)))
           ]
       | inr none ↦ rw none refl
@@ -85,14 +85,14 @@ value_after-is value (c ∷ text) fits =
 
 value_after-zero : (text : List ℕ)
     → value_after 0 text ≡ (if list_all is_digit text && nat_le (digits_value text) (2 ^ 64 - 1)
-        then Some (digits_value text) else None)
+    then Some (digits_value text) else None)
 value_after-zero text = value_after-is 0 text (omega arith)
 
 -- the value at the end of the digits is their number
 pub value_after-end : (value index : ℕ) (text : List ℕ) → length text ≤ index
     → value_after value (drop index text) ≡ value_after 0 text
     → Some value ≡ (if list_all is_digit text && nat_le (digits_value text) (2 ^ 64 - 1) then Some (digits_value text)
-        else None)
+    else None)
 value_after-end value index text ended e =
     let nothing : drop index text ≡ [] = drop_all index text ended in
     ap (value_after value) (sym nothing) ∙ e ∙ value_after-zero text
@@ -101,9 +101,9 @@ value_after-end value index text ended e =
 pub value_after-stop : (value index : ℕ) (text : List ℕ) → index < length text
     → value_after value (drop index text) ≡ value_after 0 text
     → None ≡ (if is_digit (get_or text index 0) && nat_le (value * 10 + (get_or text index 0 - 48)) (2 ^ 64 - 1)
-        then Some (value * 10 + (get_or text index 0 - 48)) else None)
+    then Some (value * 10 + (get_or text index 0 - 48)) else None)
     → None ≡ (if list_all is_digit text && nat_le (digits_value text) (2 ^ 64 - 1) then Some (digits_value text)
-        else None)
+    else None)
 value_after-stop value index text lt e none =
     let c = get_or text index 0 in
     elim (cases_Bool (is_digit c && nat_le (value * 10 + (c - 48)) (2 ^ 64 - 1))) [
@@ -117,7 +117,7 @@ value_after-stop value index text lt e none =
 -- of.
 pub split_on-cases : (test : ℕ → Bool) (c : ℕ) (text : List ℕ) → test c ≡ false
     → (split_on c text ≡ text ∷ []) ⊎ ((p q : List ℕ) × (ps : List (List ℕ)) × (split_on c text ≡ p ∷ q ∷ ps)
-        × (list_all test text ≡ false))
+    × (list_all test text ≡ false))
 split_on-cases test c [] none = inl refl
 split_on-cases test c (x ∷ text) none =
     elim (cases_Bool (x == c)) [
@@ -162,7 +162,7 @@ and_octet first others = do
 
 four_octets_read : (a b c d : Option ℕ)
     → option_map (λ ns. four_at ns 0) (and_octet a (and_octet b (and_octet c (and_octet d (Some [])))))
-        ≡ address_of a b c d
+    ≡ address_of a b c d
 four_octets_read None b c d = refl
 four_octets_read (Some m) None c d = refl
 four_octets_read (Some m) (Some n) None d = refl
@@ -179,7 +179,7 @@ no_fourth (Some m) (Some n) (Some o) d e = rw e refl
 read_dotted-parts : (text first second third fourth : List ℕ)
     → split_on 46 text ≡ first ∷ second ∷ third ∷ split_on 46 fourth
     → read_dotted text ≡ address_of (number_up_to 255 first) (number_up_to 255 second) (number_up_to 255 third)
-        (number_up_to 255 fourth)
+    (number_up_to 255 fourth)
 read_dotted-parts text first second third fourth e =
     elim (split_on-cases is_digit 46 fourth refl) [
       | inl one ↦ rw (e, one) (four_octets_read (number_up_to 255 first) (number_up_to 255 second)
@@ -187,7 +187,7 @@ read_dotted-parts text first second third fourth e =
       | inr (p, q, ps, more, other) ↦
           let five : (suc (suc (suc (suc (suc (length ps))))) == 4) ≡ false = ne_eqb _ _ (λ same. omega arith) in
           rw (e, more, five) (no_fourth (number_up_to 255 first) (number_up_to 255 second) (number_up_to 255 third)
-              (number_up_to 255 fourth) (number_up_to-none 255 fourth other))
+          (number_up_to 255 fourth) (number_up_to-none 255 fourth other))
     ]
 
 no_length : (address len : Option ℕ) → len ≡ None
@@ -243,4 +243,4 @@ pub read_prefix-made : (text address len : List ℕ) (a l : ℕ) (made : Option 
     → IsSome made ↔ (l ≤ 32) → IfSome made (λ p. p ≡ prefix_of a l) → made ≡ read_prefix text
 read_prefix-made text address len a l made e is_a is_l some value =
     prefix_some made a l some value (number_up_to-le 32 l len is_l)
-        ∙ read_prefix-by text address len (Some a) (Some l) e is_a is_l
+    ∙ read_prefix-by text address len (Some a) (Some l) e is_a is_l

@@ -36,7 +36,7 @@ cut_turns-enough size is (suc n) (suc m) s a b =
           let l = length-drop k s in
           cut_turns-suc size n s (Some k) e
           ∙ ap (after_item (take k s)) (cut_turns-enough size is n m (drop k s) (omega (arith, h.0, h.1, a, l))
-              (omega (arith, h.0, h.1, b, l)))
+          (omega (arith, h.0, h.1, b, l)))
           ∙ sym (cut_turns-suc size m s (Some k) e)
     ] refl
 
@@ -46,7 +46,7 @@ pub cut-none : (size : List ℕ → Option ℕ) → IsSize size → (s : List �
 unfolding cut
 cut-none size is s e =
     cut_turns-enough size is (length s) (suc (length s)) s (omega arith) (omega arith)
-        ∙ cut_turns-suc size (length s) s None e
+    ∙ cut_turns-suc size (length s) s None e
 
 -- an item at the front is the first, and the others are those after it
 pub cut-some : (size : List ℕ → Option ℕ) → IsSize size → (s : List ℕ) (n : ℕ) → size s ≡ Some n
@@ -58,7 +58,7 @@ cut-some size is s n e =
     cut_turns-enough size is (length s) (suc (length s)) s (omega arith) (omega arith)
     ∙ cut_turns-suc size (length s) s (Some n) e
     ∙ ap (after_item (take n s)) (cut_turns-enough size is (length s) (length (drop n s)) (drop n s) (omega (arith, l))
-        (omega arith))
+    (omega arith))
 
 -- the items and the rest join to the whole
 concat-cut_turns : (size : List ℕ → Option ℕ) (turns : ℕ) (s : List ℕ)
@@ -105,13 +105,13 @@ cut-append-turns : (size : List ℕ → Option ℕ) → IsSize size → IsStable
     → length s ≤ turns → cut size (s ++ t) ≡ items_then (cut size s).items (cut size ((cut size s).rest ++ t))
 cut-append-turns size is stable zero s t a =
     elim (size s) as (λ o. size s ≡ o → cut size (s ++ t) ≡ items_then (cut size s).items
-        (cut size ((cut size s).rest ++ t))) [
+    (cut size ((cut size s).rest ++ t))) [
       | None ↦ λ e. items_then-none size is s t e
       | Some k ↦ λ e. let h = is s k e in absurd (omega (arith, h.0, h.1, a))
     ] refl
 cut-append-turns size is stable (suc turns) s t a =
     elim (size s) as (λ o. size s ≡ o → cut size (s ++ t) ≡ items_then (cut size s).items
-        (cut size ((cut size s).rest ++ t))) [
+    (cut size ((cut size s).rest ++ t))) [
       | None ↦ λ e. items_then-none size is s t e
       | Some k ↦ λ e.
           let h = is s k e in
@@ -120,7 +120,7 @@ cut-append-turns size is stable (suc turns) s t a =
           ∙ ap (λ x. after_item x (cut size (drop k (s ++ t)))) (take-append-le k s t h.1)
           ∙ ap (λ d. after_item (take k s) (cut size d)) (drop-append-le k s t h.1)
           ∙ ap (after_item (take k s)) (cut-append-turns size is stable turns (drop k s) t
-              (omega (arith, h.0, h.1, a, l)))
+          (omega (arith, h.0, h.1, a, l)))
           ∙ sym (ap (λ (p : Pieces). items_then p.items (cut size (p.rest ++ t))) (cut-some size is s k e))
     ] refl
 
@@ -135,8 +135,11 @@ cut_turns-items size is local zero s = tt
 cut_turns-items size is local (suc turns) s =
     elim (size s) as (λ o. size s ≡ o → AllByRecursion (IsItem size) (cut_by size s turns o).items) [
       | None ↦ λ e. tt
-      | Some n ↦ λ e. (local s n e ∙ ap Some (sym (length-take-le n s (is s n e).1)), cut_turns-items size is local
-          turns (drop n s))
+      | Some n ↦ λ e. (
+        local s n e ∙ ap Some (sym (length-take-le n s (is s n e).1)),
+        cut_turns-items size is local
+            turns (drop n s),
+      )
     ] refl
 
 -- each item of a cut is one whole item

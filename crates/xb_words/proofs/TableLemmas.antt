@@ -93,7 +93,7 @@ module _ {K X : Type 0} (c : K → K → Ordering) (o : IsTotalOrder c) where
       (λ l. rw l (IsRising-cons c o (k, v) (e ∷ es) (l, Each-trans c o k e es l first) rising))
       (λ q. rw q (IsRising-cons c o (e.0, v) es first rest))
       (λ g. rw g (IsRising-cons c o e (with_value c es k v) (each_with e.0 es k v (less_from_greater c o e.0 k g) first)
-          (IsRising-with_value es k v rest)))
+      (IsRising-with_value es k v rest)))
 
   -- the keys rise after a removal
   pub IsRising-without : (es : List (K × X)) (k : K) → IsRising c es → IsRising c (without c es k)
@@ -102,7 +102,7 @@ module _ {K X : Type 0} (c : K → K → Ordering) (o : IsTotalOrder c) where
       let first = IsRising-head c o e es rising in
       let rest = IsRising-tail c o e es rising in
       let stays : IsRising c (e ∷ without c es k) = IsRising-cons c o e (without c es k) (each_without e.0 es k first)
-          (IsRising-without es k rest) in
+      (IsRising-without es k rest) in
       by_ordering (c k e.0) (λ l. rw l stays) (λ q. rw q rest) (λ g. rw g stays)
 
   -- a present key is not below the first
@@ -110,7 +110,7 @@ module _ {K X : Type 0} (c : K → K → Ordering) (o : IsTotalOrder c) where
       → value_at c (e ∷ es) k ≡ Some w → c k e.0 ≡ Less → P
   not_below e es k w rising there l =
       let none : value_at c (e ∷ es) k ≡ None = value_at-above c o k (e ∷ es)
-          (l, Each-trans c o k e es l (IsRising-head c o e es rising)) in
+      (l, Each-trans c o k e es l (IsRising-head c o e es rising)) in
       absurd (cc (none, there))
 
   -- a property of all entries stays if a value that has it is written over another
@@ -121,8 +121,11 @@ module _ {K X : Type 0} (c : K → K → Ordering) (o : IsTotalOrder c) where
   AllByRecursion-with_value-over P (e ∷ es) k v w rising there stays a = by_ordering (c k e.0)
       (λ l. not_below e es k w rising there l)
       (λ q. rw q (stays e a.0, a.1))
-      (λ g. rw g (a.0, AllByRecursion-with_value-over P es k v w (IsRising-tail c o e es rising) (rw g at there) stays
-          a.1))
+      (λ g. rw g (
+        a.0,
+        AllByRecursion-with_value-over P es k v w (IsRising-tail c o e es rising) (rw g at there) stays
+            a.1,
+      ))
 
   -- a write over a value makes no entry more
   pub length-with_value-over : (es : List (K × X)) (k : K) (v w : X) → IsRising c es → value_at c es k ≡ Some w
@@ -158,7 +161,7 @@ module _ {K X : Type 0} (c : K → K → Ordering) (o : IsTotalOrder c) where
       (λ l. not_below e es k w rising there l)
       (λ q. let same : e.1 ≡ w = cc (rw q at there) in rw (q, q) (ap (λ (x : X). (e.0, x) ∷ es) (sym same)))
       (λ g. rw (g, g) (ap (λ (t : List (K × X)). e ∷ t)
-          (with_value-with_value es k v w (IsRising-tail c o e es rising) (rw g at there))))
+      (with_value-with_value es k v w (IsRising-tail c o e es rising) (rw g at there))))
 
   before_all : (es : List (K × X)) (k : K) (w : X) → Each c o Less k es → with_value c es k w ≡ (k, w) ∷ es
   before_all [] k w each = refl
@@ -176,7 +179,7 @@ module _ {K X : Type 0} (c : K → K → Ordering) (o : IsTotalOrder c) where
       let entry : (k, w) ∷ es ≡ e ∷ es = ap (λ (x : K). (x, w) ∷ es) key ∙ ap (λ (x : X). (e.0, x) ∷ es) (sym same) in
       rw q (before_all es k w (Each-congr c o k e es q (IsRising-head c o e es rising)) ∙ entry))
       (λ g. rw (g, g) (ap (λ (t : List (K × X)). e ∷ t)
-          (with_value-without exact es k w (IsRising-tail c o e es rising) (rw g at there))))
+      (with_value-without exact es k w (IsRising-tail c o e es rising) (rw g at there))))
 
 is_less : (r : Ordering) → is_lt r ≡ true → r ≡ Less
 is_less Less e = refl

@@ -66,7 +66,7 @@ module _ {K X : Type 0} (c : K → K → Ordering) (o : IsTotalOrder c) where
   IsRising-left [] es rising = tt
   IsRising-left (l ∷ ls) es rising =
       IsRising-cons l ls (each_left Less l.0 ls es (IsRising-head l (ls ++ es) rising))
-          (IsRising-left ls es (IsRising-tail l (ls ++ es) rising))
+      (IsRising-left ls es (IsRising-tail l (ls ++ es) rising))
 
   rising_rest : (ls es : List (K × X)) → IsRising c (ls ++ es) → IsRising c es
   rising_rest [] es rising = rising
@@ -91,17 +91,21 @@ module _ {K X : Type 0} (c : K → K → Ordering) (o : IsTotalOrder c) where
       → IsRising c (ls ++ e ∷ rs) → Each Greater q ls
   past_greater q [] e rs more rising = tt
   past_greater q (l ∷ ls) e rs more rising =
-      let before = each_right Less l.0 ls (e ∷ rs) (IsRising-head l (ls ++ e ∷ rs) rising) in
-      (greater_from_less c o q l.0 (o.trans l.0 e.0 q before.0 (less_from_greater c o e.0 q more)), past_greater q ls e
-          rs more (IsRising-tail l (ls ++ e ∷ rs) rising))
+      let before = each_right Less l.0 ls (e ∷ rs) (IsRising-head l (ls ++ e ∷ rs) rising) in (
+        greater_from_less c o q l.0 (o.trans l.0 e.0 q before.0 (less_from_greater c o e.0 q more)),
+        past_greater q ls e
+            rs more (IsRising-tail l (ls ++ e ∷ rs) rising),
+      )
 
   past_equal : (q : K) (ls : List (K × X)) (e : K × X) (rs : List (K × X)) → c q e.0 ≡ Equal → IsRising c (ls ++ e ∷ rs)
       → Each Greater q ls
   past_equal q [] e rs same rising = tt
   past_equal q (l ∷ ls) e rs same rising =
-      let before = each_right Less l.0 ls (e ∷ rs) (IsRising-head l (ls ++ e ∷ rs) rising) in
-      (greater_from_less c o q l.0 (alike_right o q e.0 l.0 same ∙ before.0), past_equal q ls e rs same
-          (IsRising-tail l (ls ++ e ∷ rs) rising))
+      let before = each_right Less l.0 ls (e ∷ rs) (IsRising-head l (ls ++ e ∷ rs) rising) in (
+        greater_from_less c o q l.0 (alike_right o q e.0 l.0 same ∙ before.0),
+        past_equal q ls e rs same
+            (IsRising-tail l (ls ++ e ∷ rs) rising),
+      )
 
   before_less : (q : K) (ls : List (K × X)) (e : K × X) (rs : List (K × X)) → c q e.0 ≡ Less → IsRising c (ls ++ e ∷ rs)
       → Each Less q rs
@@ -147,7 +151,7 @@ module _ {K X : Type 0} (c : K → K → Ordering) (o : IsTotalOrder c) where
     where
       by : (r : Ordering) → with_value c (ls ++ e ∷ rs) q v ≡ with_value c ls q v ++ e ∷ rs
           → match_ordering r ((q, v) ∷ l ∷ (ls ++ e ∷ rs)) ((l.0, v) ∷ (ls ++ e ∷ rs))
-              (l ∷ with_value c (ls ++ e ∷ rs) q v)
+          (l ∷ with_value c (ls ++ e ∷ rs) q v)
           ≡ match_ordering r ((q, v) ∷ l ∷ ls) ((l.0, v) ∷ ls) (l ∷ with_value c ls q v) ++ e ∷ rs
       by Less h = refl
       by Equal h = refl
@@ -169,7 +173,7 @@ module _ {K X : Type 0} (c : K → K → Ordering) (o : IsTotalOrder c) where
     where
       by : (b : Bool) → entry_after c (ls ++ e ∷ rs) (Some q) ≡ or_entry (entry_after c ls (Some q)) e
           → first_of (cond b (l ∷ entries_after c (ls ++ e ∷ rs) (Some q)) (entries_after c (ls ++ e ∷ rs) (Some q)))
-              ≡ or_entry (first_of (cond b (l ∷ entries_after c ls (Some q)) (entries_after c ls (Some q)))) e
+          ≡ or_entry (first_of (cond b (l ∷ entries_after c ls (Some q)) (entries_after c ls (Some q)))) e
       by true h = refl
       by false h = h
 
