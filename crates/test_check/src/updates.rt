@@ -1,4 +1,4 @@
-use crate::{check_section, check_update};
+use bgp_check::{check_section, check_update};
 use std::alloc::{AllocError, Global};
 use std::test::Fail;
 use xb_wire::Notice;
@@ -69,8 +69,8 @@ d0c8000101 0
 00ff00 2
 60c8020102 2";
 
-// In each row withdrawn prefixes, section and announced prefixes in hexadecimal, and the subcode, or 0, and the data of the
-// first fault; `-` is no octets.
+// In each row withdrawn prefixes, section and announced prefixes in hexadecimal, then the subcode of the first fault, or
+// 0, and its data; `-` is no octets.
 const UPDATES: &str = "- - - 0 -
 200a000001 - - 0 -
 00080a - - 0 -
@@ -177,7 +177,7 @@ fn each_attribute_is_judged_by_its_row(rt: HostRuntime) -> Result<(), Fail> {
 }
 
 #[test]
-fn the_first_fault_of_a_body_is_told(rt: HostRuntime) -> Result<(), Fail> {
+fn the_first_fault_of_a_body_is_returned(rt: HostRuntime) -> Result<(), Fail> {
     let alloc = rt.alloc();
     for row in UPDATES.lines() {
         let mut words = row.split(' ');

@@ -1,8 +1,8 @@
-use crate::Segments;
+use bgp_path::Segments;
 use std::test::Fail;
 
 #[test]
-fn a_walk_hands_out_segments_and_tells_the_whole_path(rt: HostRuntime) -> Result<(), Fail> {
+fn a_walk_returns_segments_and_calls_are_about_the_whole_path(rt: HostRuntime) -> Result<(), Fail> {
     let value = [2, 2, 0xfd, 0xe9, 0x5b, 0xa0, 1, 3, 0, 1, 0, 2, 0, 3];
     let mut segments = Segments::new(&value).ok_or("no path")?;
     let first = segments.next().ok_or("no segment")?;
@@ -21,7 +21,7 @@ fn a_walk_hands_out_segments_and_tells_the_whole_path(rt: HostRuntime) -> Result
 }
 
 #[test]
-fn a_number_is_put_in_front_where_it_fits(rt: HostRuntime) -> Result<(), Fail> {
+fn a_number_is_prepended_if_it_fits(rt: HostRuntime) -> Result<(), Fail> {
     let mut out = [0u8; 7];
     let sequence = Segments::new(&[2, 1, 0xfd, 0xe9]).ok_or("no path")?;
     assert_eq!(rt; sequence.prepend_into(65000, &mut out[..5]), None);

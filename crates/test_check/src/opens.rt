@@ -1,4 +1,4 @@
-use crate::{OpenSeen, OpenWant, read_open};
+use bgp_open::{OpenSeen, OpenWant, read_open};
 use std::test::Fail;
 use xb_wire::Notice;
 
@@ -28,7 +28,7 @@ fn an_open_is_judged(rt: HostRuntime) -> Result<(), Fail> {
 }
 
 #[test]
-fn the_version_that_is_wanted_is_told(rt: HostRuntime) -> Result<(), Fail> {
+fn the_supported_version_is_returned(rt: HostRuntime) -> Result<(), Fail> {
     let of_version_3 = [3, 0xfd, 0xe9, 0, 0x5a, 0xc0, 0, 2, 1, 0];
     let refused = Notice {
         code: 2,

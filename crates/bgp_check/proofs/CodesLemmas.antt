@@ -1,4 +1,4 @@
--- The set with one code more.
+-- Lemmas on a set of codes with one code more.
 use Rattle.std.proofs.Common.{◌≡◌, inl, inr, sym, ap, ◌∙◌, ℕ, ◌/◌, ◌%◌, ◌*◌, ◌^◌, ◌<◌, List, length, arith}
 use Rattle.std.specs.Prelude.{slice_index, slice_set, bit_or, ◌==◌, ◌||◌}
 use Rattle.std.specs.Int.{bit_at, w64}
@@ -7,7 +7,7 @@ use Rattle.std.proofs.lemmas.Bool.Decides.{eqb_tells, nat_tests}
 use Rattle.std.proofs.lemmas.Grind.{get_or-set_at}
 use Rattle.std.proofs.lemmas.List.{get_or-set_other}
 use Rattle.std.proofs.lemmas.Nat.Bits.{bit_at_set_same, bit_at_set_other}
-use Rattle.bgp_check.specs.Codes.{holds}
+use Rattle.bgp_check.specs.Codes.{has_bit}
 
 -- a word with one bit more
 abbrev set_in : ℕ → ℕ → ℕ
@@ -32,8 +32,9 @@ same_bit code other e = grind (arith, nat_tests)
 abbrev pub with_bit : List ℕ → ℕ → List ℕ
 with_bit words code = slice_set words (code / 64) (set_in (slice_index words (code / 64)) (code % 64))
 
-pub holds-with_bit : (words : List ℕ) (code other : ℕ) → length words ≡ 4 → code < 256 → holds (with_bit words code) other ≡ (code == other || holds words other)
-holds-with_bit words code other len small =
+-- the set has the code, and what it had
+pub has_bit-with_bit : (words : List ℕ) (code other : ℕ) → length words ≡ 4 → code < 256 → has_bit (with_bit words code) other ≡ (code == other || has_bit words other)
+has_bit-with_bit words code other len small =
     let word = slice_index words (code / 64) in
     let more = set_in word (code % 64) in
     let i = other % 64 in
@@ -47,5 +48,5 @@ holds-with_bit words code other len small =
           ∙ ap (λ w. code == other || bit_at (slice_index words w) i == 1) (sym same.1)
       | inr apart ↦
           ap (λ n. bit_at n i == 1) (get_or-set_other words (code / 64) (other / 64) more 0 apart.1)
-          ∙ sym (ap (λ b. b || holds words other) (ne_eqb code other (λ e. apart.1 (ap (λ n. n / 64) (sym e)))))
+          ∙ sym (ap (λ b. b || has_bit words other) (ne_eqb code other (λ e. apart.1 (ap (λ n. n / 64) (sym e)))))
     ]
