@@ -23,7 +23,7 @@ pub mod segments;
 
 pub use attrs::{Attr, Attrs, Overrun};
 pub use path::path_ok;
-pub use rule::{AttrFault, attr_rule};
+pub use rule::{AttrFault, attr_rule, is_host};
 
 /// The most octets of a route's canonical section: 4,096, which edits may reach, and 16 for what an export adds.
 pub const MAX_CANONICAL: usize = 4112;

@@ -38,7 +38,8 @@ pub enum AttrFault {
     Path,
 }
 
-fn is_host(first: u8) -> bool
+/// Whether an address with this first octet may be a host's: it is not 0, 127, or 224 to 255.
+pub fn is_host(first: u8) -> bool
     ensures { result ≡ may_be_host first }
 {
     first != THIS_NETWORK && first != LOOPBACK && first < MULTICAST

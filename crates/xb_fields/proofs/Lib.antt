@@ -1,6 +1,6 @@
-pub mod Values
-pub mod Documents
-pub mod Steps
-pub mod Texts
-pub mod Handed
-pub mod Accepted
+pub mod ValueLemmas
+pub mod DocumentLemmas
+pub mod StepLemmas
+pub mod TextLemmas
+pub mod OutcomeLemmas
+pub mod FieldLemmas

@@ -1,4 +1,5 @@
--- Fields of a TOML document, with the first fault: each step gives a value, or a fault with its kind and its place (this project's own).
+-- Fields of a TOML document, with the first fault: each step gives a value, or a fault with its kind and its location
+-- (this project's own).
 use Rattle.std.specs.Prelude.{ℕ, ◌+◌, Bool, List, [], ◌∷◌, ◌++◌, length, Option, Some, None, Result, Ok, Err, ok_or, ℤ, pos, negsuc, nat_le, ◌&&◌, if◌then◌else◌}
 use Rattle.std.specs.List.{list_any, list_all}
 use Rattle.std.specs.Str.{bytes_eq, is_utf8}
@@ -8,38 +9,38 @@ use Rattle.xb_domain.specs.declared.bad.BadKind.{BadKind}
 use Rattle.xb_domain.specs.declared.bad.BadKind.TheVariants.{Text, Shape, Key, Missing, Range, Count}
 use Rattle.xb_domain.specs.declared.bad.Part.{Part}
 use Rattle.xb_domain.specs.declared.bad.Part.TheVariants.{Top}
-use Rattle.xb_fields.specs.declared.fault.Bad.{Bad}
-use Rattle.xb_fields.specs.declared.fault.Place.{Place}
+use Rattle.xb_fields.specs.declared.fault.FieldFault.{FieldFault}
+use Rattle.xb_fields.specs.declared.fault.Location.{Location}
 
--- what reading gives: a value, or the first fault
+-- what is judged of fields: a value, or the first fault
 abbrev pub Judged : Type 0 → Type 0
-Judged A = Result A Bad
+Judged A = Result A FieldFault
 
--- a step, and what follows where it gives a value
+-- a step, and what follows if it gives a value
 infixl 10 ◌>>=◌
-abbrev pub ◌>>=◌ : {A B : Type 0} → Judged A → (A → Judged B) → Judged B
+abbrev pub ◌>>=◌ : {A B F : Type 0} → Result A F → (A → Result B F) → Result B F
 (Ok x) >>= f = f x
 (Err bad) >>= f = Err bad
 
--- where a field stands: a part, and the position of its entry from 1, or 0
-abbrev pub place : Part → ℕ → Place
-place part index = record { part = part; index = index }
+-- a part of a document, and the position of an entry from 1, or 0
+abbrev pub location : Part → ℕ → Location
+location part index = record { part = part; index = index }
 
--- a fault at a place, in no slot
-abbrev pub bad_at : Place → BadKind → Bad
-bad_at at kind = record { kind = kind; part = at.part; index = at.index; slot = 0 }
+-- a fault in a location
+abbrev pub fault_at : Location → BadKind → FieldFault
+fault_at at kind = record { kind = kind; part = at.part; index = at.index }
 
 -- a value that must be there
-abbrev pub found : {A : Type 0} → Place → BadKind → Option A → Judged A
-found at kind o = ok_or o (bad_at at kind)
+abbrev pub present : {A : Type 0} → Location → BadKind → Option A → Judged A
+present at kind o = ok_or o (fault_at at kind)
 
 -- a test that must be passed
-abbrev pub must : Place → BadKind → Bool → Judged (Unit {0})
-must at kind test = if test then Ok tt else Err (bad_at at kind)
+abbrev pub must : Location → BadKind → Bool → Judged (Unit {0})
+must at kind test = if test then Ok tt else Err (fault_at at kind)
 
 -- the table that a text is (TOML 1.1)
 unfoldable pub document : List ℕ → Judged Members
-document octets = found (place Top 0) Text (if is_utf8 octets then parse_document octets else None)
+document octets = present (location Top 0) Text (if is_utf8 octets then parse_document octets else None)
 
 -- the values of an array, in order
 abbrev pub data_of : Items → List Data
@@ -60,13 +61,13 @@ unfoldable pub keys_listed : List (List ℕ) → Members → Bool
 keys_listed listed ms = list_all (is_listed listed) (keys_of ms)
 
 -- the keys and values of a table with listed keys
-unfoldable pub table_with : Place → List (List ℕ) → Data → Judged Members
+unfoldable pub table_with : Location → List (List ℕ) → Data → Judged Members
 table_with at listed d = do
-  ms ← found at Shape (as_table d)
+  ms ← present at Shape (as_table d)
   _ ← must at Key (keys_listed listed ms)
   Ok ms
 
--- from a least to a most
+-- from `least` to `most`
 abbrev pub is_between : ℕ → ℕ → ℕ → Bool
 is_between least most n = nat_le least n && nat_le n most
 
@@ -76,45 +77,45 @@ number_between least most (pos n) = if is_between least most n then Some n else 
 number_between least most (negsuc n) = None
 
 -- the number that a value is
-unfoldable pub number : Place → ℕ → ℕ → Data → Judged ℕ
+unfoldable pub number : Location → ℕ → ℕ → Data → Judged ℕ
 number at least most d = do
-  z ← found at Shape (as_integer d)
-  found at Range (number_between least most z)
+  z ← present at Shape (as_integer d)
+  present at Range (number_between least most z)
 
 -- the text that a value is
-unfoldable pub string_in : Place → Data → Judged (List ℕ)
-string_in at d = found at Shape (as_str d)
+unfoldable pub string_in : Location → Data → Judged (List ℕ)
+string_in at d = present at Shape (as_str d)
 
 -- what a reader takes from a text
-abbrev pub text : {A : Type 0} → Place → (List ℕ → Option A) → Data → Judged A
+abbrev pub text : {A : Type 0} → Location → (List ℕ → Option A) → Data → Judged A
 text at read d = do
   written ← string_in at d
-  found at Range (read written)
+  present at Range (read written)
 
--- a list of at most so many values
-unfoldable pub list_of : Place → ℕ → Data → Judged (List Data)
+-- a list of at most `most` values
+unfoldable pub list_of : Location → ℕ → Data → Judged (List Data)
 list_of at most d = do
-  items ← found at Shape (as_array d)
+  items ← present at Shape (as_array d)
   _ ← must at Count (nat_le (length (data_of items)) most)
   Ok (data_of items)
 
--- what stands at a key that must be there
-unfoldable pub required : {A : Type 0} → Place → List ℕ → (Data → Judged A) → Members → Judged A
+-- what the value at a key gives; the key must be there
+unfoldable pub required : {A : Type 0} → Location → List ℕ → (Data → Judged A) → Members → Judged A
 required at key read ms = do
-  d ← found at Missing (get_member key ms)
+  d ← present at Missing (get_member key ms)
   read d
 
--- what stands at a key that may be absent
+-- what the value at a key gives, or a default if the key is absent
 unfoldable pub optional : {A : Type 0} → List ℕ → A → (Data → Judged A) → Members → Judged A
 optional key default read ms = elim (get_member key ms) [ None ↦ Ok default | Some d ↦ read d ]
 
 -- the entries that values give, in order, each judged by its position and the entries before it
-abbrev pub entries_from : {A : Type 0} → (ℕ → List A → Data → Judged A) → ℕ → List A → List Data → Judged (List A)
-entries_from judge position earlier [] = Ok earlier
-entries_from judge position earlier (d ∷ ds) = do
+abbrev pub judged_from : {A F : Type 0} → (ℕ → List A → Data → Result A F) → ℕ → List A → List Data → Result (List A) F
+judged_from judge position earlier [] = Ok earlier
+judged_from judge position earlier (d ∷ ds) = do
   x ← judge position earlier d
-  entries_from judge (position + 1) (earlier ++ x ∷ []) ds
+  judged_from judge (position + 1) (earlier ++ x ∷ []) ds
 
 -- all entries; positions are counted from 1
-unfoldable pub entries : {A : Type 0} → (ℕ → List A → Data → Judged A) → List Data → Judged (List A)
-entries judge ds = entries_from judge 1 [] ds
+unfoldable pub judged_entries : {A F : Type 0} → (ℕ → List A → Data → Result A F) → List Data → Result (List A) F
+judged_entries judge ds = judged_from judge 1 [] ds

@@ -1,49 +1,61 @@
-// What is wrong with a document, and where.
+//! What is wrong with a document, and in which of its entries.
 ghost use Rattle.std.specs.Prelude.{◌≡◌};
 
 use std::alloc::{AllocError, AllocFailed};
 use thiserror::Error;
 use xb_domain::{BadKind, Part};
 
-/// A fault. `index` is the position of an entry from 1, or 0; `slot` is 0 where the fault is none of a program's code.
+/// What is wrong with a document. `index` is the position of an entry in its list, from 1, or 0 if the fault is in no
+/// list.
 #[derive(Clone, Copy, Debug, PartialEq, Eq)]
-pub struct Bad {
+pub struct FieldFault {
     pub kind: BadKind,
     pub part: Part,
     pub index: u32,
-    pub slot: u32,
 }
 
-/// Where a field stands: a part, and the position of its entry from 1, or 0.
+/// The part of a document that a field is in, and the position of its entry from 1, or 0.
 #[derive(Clone, Copy, Debug, PartialEq, Eq)]
-pub struct Place {
+pub struct Location {
     pub part: Part,
     pub index: u32,
 }
 
-impl Place {
-    ghost use Rattle.xb_fields.specs.Fields.{bad_at};
+impl Location {
+    ghost use Rattle.xb_fields.specs.Fields.{location, fault_at};
 
-    /// A fault at this place.
-    pub fn bad(self, kind: BadKind) -> Bad
-        ensures { result ≡ bad_at self kind }
+    /// The document as a whole.
+    pub const TOP: Location = Location {
+        part: Part::Top,
+        index: 0,
+    };
+
+    /// The entry of a part at a position from 1.
+    pub fn new(part: Part, index: u32) -> Location
+        ensures { result ≡ location part index }
     {
-        Bad {
+        Location { part, index }
+    }
+
+    /// A fault in this location.
+    pub fn fault(self, kind: BadKind) -> FieldFault
+        ensures { result ≡ fault_at self kind }
+    {
+        FieldFault {
             kind,
             part: self.part,
             index: self.index,
-            slot: 0,
         }
     }
 }
 
-/// Why a document has no value.
+/// Why a document gives no value: its first fault, or want of memory, which says nothing of the document.
 #[derive(Clone, Copy, Debug, PartialEq, Eq, Error)]
 pub enum FieldError {
     #[error("out of memory")]
     OutOfMemory,
     #[error("{kind:?} in {part:?} {index}", kind = .0.kind, part = .0.part, index = .0.index)]
-    Bad(Bad),
+    Bad(FieldFault),
 }
 
 impl From<AllocError> for FieldError {
@@ -66,12 +78,12 @@ impl<T: Drop> From<AllocFailed<T>> for FieldError {
     }
 }
 
-impl From<Bad> for FieldError {
-    ghost use Rattle.xb_fields.specs.declared.fault.FieldError.TheVariants as variants;
+impl From<FieldFault> for FieldError {
+    ghost use Rattle.xb_fields.specs.declared.fault.FieldError.TheVariants.{Bad};
 
-    ghost from_gives = { λ bad e. e ≡ variants.Bad bad };
+    ghost from_gives = { λ fault e. e ≡ Bad fault };
 
-    fn from(bad: Bad) -> FieldError {
-        FieldError::Bad(bad)
+    fn from(fault: FieldFault) -> FieldError {
+        FieldError::Bad(fault)
     }
 }

@@ -1,3 +1,2 @@
-pub mod Addresses
-pub mod Kept
-pub mod Faults
+pub mod AddressLemmas
+pub mod ConfigLemmas

@@ -1,13 +1,19 @@
-//! The configuration of a speaker: itself, its peers, the networks that it originates and the interior costs of next hops.
+//! The configuration of a speaker: itself, its peers, the networks that it originates and the interior costs of next
+//! hops.
 //!
-//! `read_config` gives the configuration that a text says, or the first of its faults. `specs/Configs` is the table of keys with their
-//! ranges and defaults, in the order in which faults are looked for, and says what every accepted configuration keeps.
-//! It stands on `xb_fields`, which reads TOML, and on `xb_base`, for the texts of addresses and prefixes.
+//! A text of TOML comes in; `read_config` gives the configuration that it says, or the first of its faults.
+//! `specs/Configs` is the table of keys, with their ranges and defaults, in the order in which faults are looked for:
+//! the keys of the whole text, then the speaker with its networks, then peers, then costs. It also says what every
+//! accepted configuration keeps, as that peers have addresses that differ; this is an invariant of `Config`, so that
+//! whoever has one knows it.
+//!
+//! A module reads one table or list: `speaker`, `networks`, `peers`, `costs`; `texts` reads addresses, `lists` has
+//! what is read. A configuration does not change after it was read, and nothing here says what a speaker does with it.
 #![tactic(auto)]
 
 mod config;
 mod costs;
-mod fault;
+mod limits;
 mod lists;
 mod networks;
 mod peers;
@@ -15,5 +21,9 @@ mod speaker;
 mod texts;
 
 pub use config::{Config, read_config};
-pub use fault::{ConfigError, ConfigFault};
+pub use limits::{
+    DEFAULT_HOLD, DEFAULT_LOCAL_PREF, MAX_AS, MAX_COSTS, MAX_HOLD, MAX_NETWORKS, MAX_PEERS,
+    MIN_HOLD,
+};
 pub use lists::{CostEntry, Costs, Networks, PeerEntry, Peers};
+pub use xb_fields::{FieldError as ConfigError, FieldFault as ConfigFault};

@@ -1,13 +1,10 @@
-// Networks, peers and interior costs, in the order of the configuration.
+//! Networks, peers and interior costs, in the order of the text.
 ghost use Rattle.std.specs.Prelude.{◌≡◌, ◌<◌, Some, length, slice_get};
 
 use std::marker::Model;
 use xb_values::Prefix;
 
-/// The greatest AS number that a configuration may have.
-pub(crate) const GREATEST_AS: u32 = 65535;
-
-/// A peer: its AS and its address.
+/// A peer: its AS number and its address, whose high octet is the first of the four.
 #[derive(Clone, Copy, Debug, PartialEq, Eq)]
 pub struct PeerEntry {
     pub asn: u32,
@@ -37,12 +34,14 @@ impl Model for Networks {
 }
 
 impl Networks {
+    /// How many there are.
     pub fn len(&self) -> usize
         ensures { result ≡ length self.now }
     {
         self.items.len()
     }
 
+    /// The one at `i`, from 0, in the order of the text.
     pub fn get(&self, i: usize) -> Prefix
         requires { i < length self.now }
         ensures { slice_get self.now i ≡ Some result }
@@ -67,12 +66,14 @@ impl Model for Peers {
 }
 
 impl Peers {
+    /// How many there are.
     pub fn len(&self) -> usize
         ensures { result ≡ length self.now }
     {
         self.items.len()
     }
 
+    /// The one at `i`, from 0, in the order of the text.
     pub fn get(&self, i: usize) -> &PeerEntry
         requires { i < length self.now }
         ensures { slice_get self.now i ≡ Some result.now }
@@ -97,12 +98,14 @@ impl Model for Costs {
 }
 
 impl Costs {
+    /// How many there are.
     pub fn len(&self) -> usize
         ensures { result ≡ length self.now }
     {
         self.items.len()
     }
 
+    /// The one at `i`, from 0, in the order of the text.
     pub fn get(&self, i: usize) -> &CostEntry
         requires { i < length self.now }
         ensures { slice_get self.now i ≡ Some result.now }

@@ -1,4 +1,4 @@
-pub mod Rooms
-pub mod Names
-pub mod Kept
-pub mod Faults
+pub mod SumLemmas
+pub mod NameLemmas
+pub mod ManifestLemmas
+pub mod OutcomeLemmas

@@ -1,3 +1,3 @@
 pub mod Manifests
-pub mod Fields
+pub mod Views
 pub mod Outcomes

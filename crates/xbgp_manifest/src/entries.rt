@@ -1,4 +1,4 @@
-// Maps and programs, in the order of the manifest.
+//! Maps and programs, in the order of the text.
 ghost use Rattle.std.specs.Prelude.{◌≡◌, ◌<◌, Some, length, slice_get};
 
 use crate::name::Name;
@@ -14,7 +14,7 @@ pub struct MapEntry {
     pub shape: MapShape,
 }
 
-/// A program: where it runs, after how many instructions a run of it is ended, and its code.
+/// A program: the point at which it runs, the most instructions of a run, and its code.
 #[derive(Drop)]
 pub struct ProgramEntry {
     pub name: Name,
@@ -23,7 +23,7 @@ pub struct ProgramEntry {
     pub code: Code,
 }
 
-/// The maps. In calls of helpers the map at `i` has number `i`.
+/// The maps. In calls of helpers, the map at `i` has number `i`.
 #[derive(Drop)]
 pub struct MapEntries {
     pub(crate) items: Vec<MapEntry>,
@@ -39,12 +39,14 @@ impl Model for MapEntries {
 }
 
 impl MapEntries {
+    /// How many there are.
     pub fn len(&self) -> usize
         ensures { result ≡ length self.now }
     {
         self.items.len()
     }
 
+    /// The one at `i`, from 0, in the order of the text.
     pub fn get(&self, i: usize) -> &MapEntry
         requires { i < length self.now }
         ensures { slice_get self.now i ≡ Some result.now }
@@ -69,12 +71,14 @@ impl Model for ProgramEntries {
 }
 
 impl ProgramEntries {
+    /// How many there are.
     pub fn len(&self) -> usize
         ensures { result ≡ length self.now }
     {
         self.items.len()
     }
 
+    /// The one at `i`, from 0, in the order of the text.
     pub fn get(&self, i: usize) -> &ProgramEntry
         requires { i < length self.now }
         ensures { slice_get self.now i ≡ Some result.now }

@@ -1,28 +1,28 @@
-// The manifest that a text says.
+//! The manifest that a text says, from its table: its keys and version, maps with their room, programs.
 ghost use Rattle.std.specs.Prelude.{◌≡◌, ◌≤◌, Ok, Err, IfOk, IsErrOf, length, nat_le};
 ghost use Rattle.toml.specs.View.{table_view};
 ghost use Rattle.xb_domain.specs.declared.bad.BadKind.TheVariants.{Key, Room};
 ghost use Rattle.xb_domain.specs.declared.bad.Part.TheVariants.{Top};
-ghost use Rattle.xb_fields.specs.Fields.{must, place, keys_listed};
+ghost use Rattle.xb_fields.specs.Fields.{must, location, keys_listed};
 ghost use Rattle.xb_fields.specs.Outcomes.{Gives};
-ghost use Rattle.xbgp_manifest.specs.Manifests.{manifest, manifest_of, room_of, top_keys, IsManifest};
+ghost use Rattle.xbgp_manifest.specs.Manifests.{manifest, maps_of, manifest_of, room_of, manifest_keys, IsManifest};
+ghost use Rattle.xbgp_manifest.specs.Outcomes.{GivesManifest};
 
 use crate::entries::{MapEntries, ProgramEntries};
 use crate::fault::{ManifestError, ManifestFault};
+use crate::limits::{MAX_PROGRAMS, VERSION};
 use crate::maps::{read_maps, room_of};
 use crate::programs::read_programs;
 use std::alloc::{AllocError, Global};
 use std::marker::Model;
 use toml::Table;
-use xb_domain::{BadKind, Part};
-use xb_fields::{Bad, FieldError, Place, keys_listed, optional_list, read_document, required_number};
-
-const TOP: Place = Place {
-    part: Part::Top,
-    index: 0,
+use xb_domain::BadKind;
+use xb_fields::{
+    FieldError, FieldFault, Location, keys_listed, optional_list, read_document, required_number,
 };
+use xbgp_maps::limits::{MAX_MAPS, MAX_ROOM};
 
-/// An accepted manifest.
+/// An accepted manifest: the maps that programs share, and the programs, in the order of the text.
 #[derive(Drop)]
 pub struct Manifest {
     pub maps: MapEntries,
@@ -42,7 +42,7 @@ impl Model for Manifest {
 impl Manifest {
     ghost use Rattle.xbgp_manifest.specs.Manifests.{no_manifest};
 
-    /// No map and no program.
+    /// The manifest with no map and no program.
     pub fn none(alloc: Global) -> Result<Manifest, AllocError>
         ensures { result ≡ Ok no_manifest }
     {
@@ -57,46 +57,57 @@ impl Manifest {
     }
 }
 
-fn check_keys(table: &Table) -> Result<(), Bad>
-    ensures { result ≡ must (place Top 0) Key (keys_listed top_keys (table_view table.now)) }
+// Each key of the whole text is known.
+fn check_keys(table: &Table) -> Result<(), FieldFault>
+    ensures { result ≡ must (location Top 0) Key (keys_listed manifest_keys (table_view table.now)) }
 {
     if keys_listed(&["version", "map", "program"], table) {
         Ok(())
     } else {
-        Err(TOP.bad(BadKind::Key))
+        Err(Location::TOP.fault(BadKind::Key))
     }
 }
 
-fn check_room(maps: &MapEntries) -> Result<(), Bad>
-    requires { length maps.now ≤ 16 }
-    ensures { result ≡ must (place Top 0) Room (nat_le (room_of maps.now) 67108864) }
+// All entries of all maps have room.
+fn check_room(maps: &MapEntries) -> Result<(), FieldFault>
+    requires { length maps.now ≤ MAX_MAPS }
+    ensures { result ≡ must (location Top 0) Room (nat_le (room_of maps.now) MAX_ROOM) }
 {
-    if room_of(&maps.items) <= 67_108_864 {
+    if room_of(&maps.items) <= MAX_ROOM {
         Ok(())
     } else {
-        Err(TOP.bad(BadKind::Room))
+        Err(Location::TOP.fault(BadKind::Room))
     }
 }
 
-fn manifest_of(alloc: Global, table: &Table) -> Result<Manifest, FieldError>
-    ensures { Gives result (manifest_of (table_view table.now)) }
+// The maps that a table says, with all that is judged before programs.
+fn maps_of(alloc: Global, table: &Table) -> Result<MapEntries, FieldError>
+    ensures { Gives result (maps_of (table_view table.now)) }
 {
     check_keys(table)?;
-    let _ = required_number(TOP, "version", 1, 1, table)?;
-    let maps = read_maps(alloc, optional_list(TOP, "map", 16, table)?)?;
+    let _ = required_number(Location::TOP, "version", VERSION, VERSION, table)?;
+    let maps = read_maps(alloc, optional_list(Location::TOP, "map", MAX_MAPS, table)?)?;
     check_room(&maps)?;
-    let programs = read_programs(alloc, optional_list(TOP, "program", 32, table)?)?;
+    Ok(maps)
+}
+
+// The manifest that a table says.
+fn manifest_of(alloc: Global, table: &Table) -> Result<Manifest, ManifestError>
+    ensures { GivesManifest result (manifest_of (table_view table.now)) }
+{
+    let maps = maps_of(alloc, table)?;
+    let listed = optional_list(Location::TOP, "program", MAX_PROGRAMS, table)?;
+    let programs = read_programs(alloc, listed)?;
     Ok(Manifest { maps, programs })
 }
 
-/// Reads a manifest, or tells its first fault.
-///
-/// The text is TOML. Want of memory says nothing of the text.
+/// Reads a manifest from a text of TOML. `Bad` has the first fault of the text, in the order of `manifest_of`;
+/// `OutOfMemory` says nothing of the text.
 pub fn read_manifest(alloc: Global, text: &[u8]) -> Result<Manifest, ManifestError>
     ensures good { IfOk result (λ m. manifest text.now ≡ Ok m) }
     ensures kept { IfOk result IsManifest }
     ensures bad { (fault : ManifestFault) → IsErrOf result (ManifestError.Bad fault) → manifest text.now ≡ Err fault }
 {
     let table = read_document(alloc, text)?;
-    Ok(manifest_of(alloc, &table)?)
+    manifest_of(alloc, &table)
 }

@@ -4,7 +4,7 @@ use Rattle.std.specs.Prelude.{Result, codes}
 use Rattle.std.specs.Option.{option_map}
 use Rattle.std.specs.Str.{bytes_eq}
 use Rattle.xb_io.specs.Causes.{Files}
-use Rattle.xbgp_config.specs.declared.fault.ConfigFault.{ConfigFault}
+use Rattle.xb_fields.specs.declared.fault.FieldFault.{FieldFault as ConfigFault}
 use Rattle.xbgp_config.specs.Configs.{Config}
 use Rattle.xbgp_manifest.specs.declared.fault.ManifestFault.{ManifestFault}
 use Rattle.xbgp_manifest.specs.Manifests.{Manifest, manifest, no_manifest}

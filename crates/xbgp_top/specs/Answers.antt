@@ -22,7 +22,7 @@ use Rattle.bpf_machine.specs.declared.world.End.{End}
 use Rattle.bpf_machine.specs.declared.world.End.TheVariants as ends
 use Rattle.bpf_machine.specs.Running.{Helps, bpf}
 use Rattle.xbgp_top.specs.Words.{cause_word, kind_word, load_word, part_word}
-use Rattle.xbgp_config.specs.declared.fault.ConfigFault.{ConfigFault}
+use Rattle.xb_fields.specs.declared.fault.FieldFault.{FieldFault as ConfigFault}
 use Rattle.xbgp_config.specs.Configs.{Config, config}
 use Rattle.xbgp_manifest.specs.declared.fault.ManifestFault.{ManifestFault}
 use Rattle.xbgp_manifest.specs.Manifests.{Manifest, manifest, no_manifest}

@@ -5,7 +5,7 @@ use Rattle.xb_domain.specs.declared.bad.BadKind.TheVariants as kinds
 use Rattle.xb_domain.specs.declared.bad.Part.{Part}
 use Rattle.xb_domain.specs.declared.bad.Part.TheVariants as parts
 use Rattle.bpf_insn.specs.declared.fault.LoadKind.{LoadKind}
-use Rattle.xbgp_manifest.specs.Manifests.{kind_of}
+use Rattle.xbgp_manifest.specs.Manifests.{load_kind}
 use Rattle.bpf_machine.specs.declared.world.Cause.{Cause}
 use Rattle.bpf_machine.specs.declared.world.Cause.TheVariants as causes
 
@@ -42,7 +42,7 @@ part_word parts.Program = codes "program"
 
 -- why bytecode is refused
 abbrev pub load_word : LoadKind → List ℕ
-load_word kind = kind_word (kind_of kind)
+load_word kind = kind_word (load_kind kind)
 
 -- why a program failed
 abbrev pub cause_word : Cause → List ℕ

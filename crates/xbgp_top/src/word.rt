@@ -4,7 +4,7 @@ ghost use Rattle.xbgp_top.specs.Words.{cause_word, kind_word, load_word, part_wo
 use bpf_insn::LoadKind;
 use bpf_machine::Cause;
 use xb_domain::{BadKind, Part};
-use xbgp_manifest::kind_of;
+use xbgp_manifest::load_kind;
 
 /// The word for what is wrong with a configuration or a manifest.
 pub(crate) fn kind_word(kind: BadKind) -> &'static [u8]
@@ -54,7 +54,7 @@ pub(crate) fn load_word(kind: LoadKind) -> &'static [u8]
     ensures word { result.now ≡ load_word kind }
     ensures short { length result.now ≤ 8 }
 {
-    kind_word(kind_of(kind))
+    kind_word(load_kind(kind))
 }
 
 /// The word for why a program failed.

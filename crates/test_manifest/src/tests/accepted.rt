@@ -2,7 +2,7 @@
 use bpf_insn::LoadKind;
 use std::test::Fail;
 use xb_domain::{BadKind, Point};
-use xbgp_manifest::{Manifest, kind_of, read_manifest};
+use xbgp_manifest::{Manifest, load_kind, read_manifest};
 use xbgp_maps::MapShape;
 
 const FULL: &str = "program = [
@@ -62,7 +62,7 @@ fn no_manifest_is_empty(rt: HostRuntime) -> Result<(), Fail> {
 
 #[test]
 fn a_fault_of_code_has_its_kind(rt: HostRuntime) -> Result<(), Fail> {
-    assert_eq!(rt; kind_of(LoadKind::Helper(10)), BadKind::Helper);
-    assert_eq!(rt; kind_of(LoadKind::TooLong), BadKind::TooLong);
+    assert_eq!(rt; load_kind(LoadKind::Helper(10)), BadKind::Helper);
+    assert_eq!(rt; load_kind(LoadKind::TooLong), BadKind::TooLong);
     Ok(())
 }

@@ -1,6 +1,6 @@
-use Rattle.xb_fields.specs.Fields.{entries}
+use Rattle.xb_fields.specs.Fields.{judged_entries}
 use Rattle.xbgp_config.proofs.networks.read_networks.Goals as goal
 
 pub loop-i-init : goal.loop-i-init
-unfolding entries
+unfolding judged_entries
 loop-i-init c = record { rest = rw c.new-items.ensures.items; seen = λ p. rw (c.new-items.ensures.items, c.new-seen.ensures.empty) }

@@ -1,6 +1,6 @@
 use Rattle.std.proofs.Common.{◌*◌, sym, arith}
 use Rattle.xbgp_maps.specs.Mappings.{entry_size}
-use Rattle.xbgp_manifest.proofs.Rooms.{sum_by-more}
+use Rattle.xbgp_manifest.proofs.SumLemmas.{sum_by-more}
 use Rattle.xbgp_manifest.proofs.maps.room_of.Goals as goal
 
 pub loop-entry-preserved : goal.loop-entry-preserved
