@@ -1,2 +1,2 @@
-pub mod Bits
-pub mod Steps
+pub mod CodesLemmas
+pub mod JudgementLemmas

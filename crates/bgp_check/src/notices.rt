@@ -1,42 +1,19 @@
 // What a NOTIFICATION says about an UPDATE (RFC 4271, sections 4.5 and 6.3).
-ghost use Rattle.std.specs.Prelude.{◌≡◌, []};
-ghost use Rattle.xb_wire.specs.Messages.{notification};
+ghost use Rattle.std.specs.Prelude.{◌≡◌, ◌≤◌, [], length};
 ghost use Rattle.xb_wire.specs.Views.{notice_view};
-ghost use Rattle.bgp_check.specs.Judgement.{attr_notice, missing_notice};
+ghost use Rattle.bgp_check.specs.Judgement.{attr_notice, update_error};
 
 use bgp_attr::AttrFault;
 use xb_wire::Notice;
-
-const UPDATE_MESSAGE_ERROR: u8 = 3;
-
-// The subcodes.
-const MALFORMED_ATTRIBUTE_LIST: u8 = 1;
-
-const UNRECOGNIZED_WELL_KNOWN_ATTRIBUTE: u8 = 2;
-
-const MISSING_WELL_KNOWN_ATTRIBUTE: u8 = 3;
-
-const ATTRIBUTE_FLAGS_ERROR: u8 = 4;
-
-const ATTRIBUTE_LENGTH_ERROR: u8 = 5;
-
-const INVALID_ORIGIN: u8 = 6;
-
-const INVALID_NEXT_HOP: u8 = 8;
-
-const INVALID_NETWORK_FIELD: u8 = 10;
-
-const MALFORMED_AS_PATH: u8 = 11;
-
-// The codes that an announcement must have, each as the data of the notice that misses it (RFC 4271, section 5).
-static ORIGIN: [u8; 1] = [1];
-
-static AS_PATH: [u8; 1] = [2];
-
-static NEXT_HOP: [u8; 1] = [3];
+use xb_wire::numbers::{
+    ATTRIBUTE_FLAGS_ERROR, ATTRIBUTE_LENGTH_ERROR, INVALID_NETWORK_FIELD, INVALID_NEXT_HOP,
+    INVALID_ORIGIN, MALFORMED_AS_PATH, MALFORMED_ATTRIBUTE_LIST, MISSING_WELL_KNOWN_ATTRIBUTE,
+    UNRECOGNIZED_WELL_KNOWN_ATTRIBUTE, UPDATE_MESSAGE_ERROR,
+};
 
 fn about_update(subcode: u8, extra: &[u8]) -> Notice<'_>
-    ensures { notice_view result ≡ notification 3 subcode extra.now }
+    ensures says { notice_view result ≡ update_error subcode extra.now }
+    ensures data { result.extra.now ≡ extra.now }
 {
     Notice {
         code: UPDATE_MESSAGE_ERROR,
@@ -46,36 +23,28 @@ fn about_update(subcode: u8, extra: &[u8]) -> Notice<'_>
 }
 
 pub(crate) fn malformed() -> Notice<'static>
-    ensures { notice_view result ≡ notification 3 1 [] }
+    ensures says { notice_view result ≡ update_error MALFORMED_ATTRIBUTE_LIST [] }
+    ensures data { result.extra.now ≡ [] }
 {
     about_update(MALFORMED_ATTRIBUTE_LIST, &[])
 }
 
 pub(crate) fn bad_prefix() -> Notice<'static>
-    ensures { notice_view result ≡ notification 3 10 [] }
+    ensures says { notice_view result ≡ update_error INVALID_NETWORK_FIELD [] }
+    ensures data { result.extra.now ≡ [] }
 {
     about_update(INVALID_NETWORK_FIELD, &[])
 }
 
-pub(crate) fn origin_missing() -> Notice<'static>
-    ensures { notice_view result ≡ missing_notice 1 }
+// The notice that an attribute is missing, with its code as data.
+pub(crate) fn missing(code: &'static [u8]) -> Notice<'static>
+    ensures says { notice_view result ≡ update_error MISSING_WELL_KNOWN_ATTRIBUTE code.now }
+    ensures data { result.extra.now ≡ code.now }
 {
-    about_update(MISSING_WELL_KNOWN_ATTRIBUTE, &ORIGIN)
+    about_update(MISSING_WELL_KNOWN_ATTRIBUTE, code)
 }
 
-pub(crate) fn as_path_missing() -> Notice<'static>
-    ensures { notice_view result ≡ missing_notice 2 }
-{
-    about_update(MISSING_WELL_KNOWN_ATTRIBUTE, &AS_PATH)
-}
-
-pub(crate) fn next_hop_missing() -> Notice<'static>
-    ensures { notice_view result ≡ missing_notice 3 }
-{
-    about_update(MISSING_WELL_KNOWN_ATTRIBUTE, &NEXT_HOP)
-}
-
-// The notice of the fault of an attribute, of which these are all octets.
+// The notice of an attribute's fault, `raw` being all its octets.
 pub(crate) fn of_attribute(raw: &[u8], fault: AttrFault) -> Notice<'_>
     ensures { notice_view result ≡ attr_notice raw.now fault }
 {

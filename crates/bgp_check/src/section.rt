@@ -1,26 +1,30 @@
-// The checks of a section of path attributes.
-ghost use Rattle.std.specs.Prelude.{◌≡◌, ℕ, ◌<◌, [], ◌∷◌, map, find, is_none, not, option_map, IfSome};
+// The checks of a section of path attributes: of the section as a whole, of each attribute, and of what is missing.
+ghost use Rattle.std.specs.Prelude.{◌≡◌, ℕ, ◌<◌, ◌≤◌, length, map, find, max, is_none, not, option_map, IfSome};
 ghost use Rattle.xb_wire.specs.Views.{notice_view};
 ghost use Rattle.bgp_attr.specs.Attributes.{attributes, codes_of};
 ghost use Rattle.bgp_attr.specs.Rules.{attr_fault};
-ghost use Rattle.bgp_check.specs.Codes.{holds};
-ghost use Rattle.bgp_check.specs.Judgement.{attr_notice, attribute_check, first_check, has_code, is_malformed, judge_section, missing_notice};
+ghost use Rattle.bgp_check.specs.Codes.{has_bit};
+ghost use Rattle.bgp_check.specs.Judgement.{attr_notice, attribute_check, first_check, has_code, is_malformed};
+ghost use Rattle.bgp_check.specs.Judgement.{judge_section, mandatory, missing_notice};
 
 use crate::codes::Codes;
 use crate::notices;
+use bgp_attr::codes::{AS_PATH, NEXT_HOP, ORIGIN};
 use bgp_attr::{Attr, Attrs, attr_rule};
 use xb_wire::Notice;
 
-const ORIGIN: u8 = 1;
+// The codes that an announcement must have (RFC 4271, section 5), each as the data of the notice that it is missing.
+static ORIGIN_CODE: [u8; 1] = [ORIGIN];
 
-const AS_PATH: u8 = 2;
+static AS_PATH_CODE: [u8; 1] = [AS_PATH];
 
-const NEXT_HOP: u8 = 3;
+static NEXT_HOP_CODE: [u8; 1] = [NEXT_HOP];
 
-// The codes of a section, or None where an attribute runs past the section or its code came before.
+// The codes of a section. None if an attribute runs past the section or its code came before.
 fn codes_in(section: &[u8]) -> Option<Codes>
     ensures malformed { is_none result ≡ is_malformed section.now }
-    ensures codes { IfSome result (λ found. (code : ℕ) → code < 256 → holds found.words code ≡ has_code (codes_of section.now) code) }
+    ensures codes { IfSome result
+        (λ found. (code : ℕ) → code < 256 → has_bit found.words code ≡ has_code (codes_of section.now) code) }
 {
     let mut codes = Codes::new();
     let mut attrs = Attrs::new(section);
@@ -36,15 +40,17 @@ fn codes_in(section: &[u8]) -> Option<Codes>
     Some(codes)
 }
 
+// The fault of one attribute.
 fn fault_of<'a>(attr: Attr<'a>) -> Option<Notice<'a>>
-    ensures { option_map notice_view result ≡ option_map (attr_notice attr.entry.raw.now) (attr_fault 2 attr.entry.code attr.entry.flags attr.entry.value.now) }
+    ensures { let a = attr.entry in
+        option_map notice_view result ≡ option_map (attr_notice a.raw.now) (attr_fault 2 a.code a.flags a.value.now) }
 {
     let fault = attr_rule(attr.code, attr.flags, attr.value)?;
     Some(notices::of_attribute(attr.raw, fault))
 }
 
 // The first fault of the attributes, each judged alone.
-#[tactic(auto, using(crate::proofs::Steps::first_found_section))]
+#[tactic(auto, using(crate::proofs::JudgementLemmas::first_found_section))]
 fn first_fault(section: &[u8]) -> Option<Notice<'_>>
     ensures { option_map notice_view result ≡ first_check (map (attribute_check 2) (attributes section.now)) }
 {
@@ -60,25 +66,29 @@ fn first_fault(section: &[u8]) -> Option<Notice<'_>>
     None
 }
 
+// The first mandatory code that is missing.
 fn first_missing(codes: &Codes) -> Option<Notice<'static>>
-    ensures { option_map notice_view result ≡ option_map missing_notice (find (λ code. not (holds codes.now.words code)) (1 ∷ 2 ∷ 3 ∷ [])) }
+    ensures says { option_map notice_view result
+        ≡ option_map missing_notice (find (λ code. not (has_bit codes.now.words code)) mandatory) }
+    ensures data { IfSome result (λ n. length n.extra.now ≡ 1) }
 {
     if !codes.contains(ORIGIN) {
-        Some(notices::origin_missing())
+        Some(notices::missing(&ORIGIN_CODE))
     } else if !codes.contains(AS_PATH) {
-        Some(notices::as_path_missing())
+        Some(notices::missing(&AS_PATH_CODE))
     } else if !codes.contains(NEXT_HOP) {
-        Some(notices::next_hop_missing())
+        Some(notices::missing(&NEXT_HOP_CODE))
     } else {
         None
     }
 }
 
-/// The first fault of a section of path attributes. One that announces prefixes must have ORIGIN, AS_PATH and NEXT_HOP.
-/// The data of a fault is as in [`check_update`](crate::check_update).
+/// The first fault of a section of path attributes. If prefixes are announced with it, it must have ORIGIN, AS_PATH and
+/// NEXT_HOP. The data of a fault is a part of the section, except for a missing attribute: there it is its code.
 #[tactic(auto, unfolding(crate::specs::Judgement::judge_section))]
 pub fn check_section<'a>(section: &'a [u8], announces: bool) -> Option<Notice<'a>>
-    ensures { option_map notice_view result ≡ judge_section 2 section.now announces }
+    ensures fault { option_map notice_view result ≡ judge_section 2 section.now announces }
+    ensures data { IfSome result (λ n. length n.extra.now ≤ max (length section.now) 1) }
 {
     let Some(codes) = codes_in(section) else {
         return Some(notices::malformed());

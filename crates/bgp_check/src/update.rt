@@ -1,5 +1,5 @@
-// The checks of the body of an UPDATE.
-ghost use Rattle.std.specs.Prelude.{◌≡◌, Some, None, IfOk, IfErr};
+// The checks of the body of an UPDATE, in order.
+ghost use Rattle.std.specs.Prelude.{◌≡◌, ◌≤◌, ◌-◌, length, Some, None, IfOk, IfErr};
 ghost use Rattle.xb_wire.specs.Messages.{update_of};
 ghost use Rattle.xb_wire.specs.Views.{notice_view};
 ghost use Rattle.xb_values.specs.Prefixes.{are_prefixes as are_prefixes_of};
@@ -11,8 +11,8 @@ use crate::section::check_section;
 use bgp_update::{Prefixes, UpdateView};
 use xb_wire::Notice;
 
-// Whether octets are whole prefixes to the end.
-#[tactic(auto, using(crate::proofs::Steps::all_whole_prefixes))]
+// Whether whole prefixes fill the octets.
+#[tactic(auto, using(crate::proofs::JudgementLemmas::all_whole_prefixes))]
 fn are_prefixes(octets: &[u8]) -> bool
     ensures { result ≡ are_prefixes_of octets.now }
 {
@@ -25,14 +25,16 @@ fn are_prefixes(octets: &[u8]) -> bool
     true
 }
 
-/// The parts of an UPDATE's body, or its first fault. The data of a fault is a part of the body, but for a missing
-/// attribute, where it is that attribute's code.
+/// The parts of an UPDATE's body, or its first fault, the body being without the message's header. The data of a fault
+/// is a part of the body, except for a missing attribute: there it is that attribute's code. So it fits a NOTIFICATION
+/// if the body came in a message.
 #[tactic(auto, unfolding(crate::specs::Judgement::judge))]
 pub fn check_update<'a>(body: &'a [u8]) -> Result<UpdateView<'a>, Notice<'a>>
     ensures fault { IfErr result (λ n. judge 2 body.now ≡ Some (notice_view n)) }
     ensures accepted { IfOk result (λ u. judge 2 body.now ≡ None) }
     ensures parts { IfOk result (λ u. update_of body.now ≡ Some u) }
     ensures joins { IfOk result (Joins body.now) }
+    ensures data { IfErr result (λ n. length n.extra.now ≤ length body.now - 4) }
 {
     let Some(update) = UpdateView::new(body) else {
         return Err(notices::malformed());

@@ -1,64 +1,81 @@
--- The first fault of an OPEN, in the order of this project (RFC 4271, 4.2 and 6.2; RFC 5492, 4 for the capabilities parameter).
--- A body: version 1, AS 2, hold time 2, identifier 4, length of the parameters 1, parameters.
-use Rattle.std.specs.Prelude.{ℕ, ◌+◌, Bool, List, [], ◌∷◌, length, take, drop, slice_index, Option, Some, None, option_map, nat_le, ◌==◌, ◌&&◌, ◌||◌, not, if◌then◌else◌}
+-- The first fault of an OPEN, in the order of this project (RFC 4271, sections 4.2 and 6.2; RFC 5492, section 4, for
+-- the parameter that holds capabilities). A body is a version of 1 octet, an AS number of 2, a hold time of 2, an
+-- identifier of 4, the length of the parameters in 1, and the parameters.
+use Rattle.std.specs.Prelude.{ℕ, ◌+◌, Bool, List, [], ◌∷◌, length, take, drop, slice_index, Option, Some, None, option_map, nat_lt, nat_le, ◌==◌, ◌&&◌, not, if◌then◌else◌}
 use Rattle.xb_words.specs.Octets.{two_at, four_at, two_octets}
 use Rattle.xb_words.specs.Cut.{cut}
 use Rattle.xb_words.specs.Optional.{or_else}
+use Rattle.xb_wire.specs.declared.numbers.TheConstants.{OPEN_MESSAGE_ERROR, UNSPECIFIC, UNSUPPORTED_VERSION_NUMBER, BAD_PEER_AS, BAD_BGP_IDENTIFIER, UNSUPPORTED_OPTIONAL_PARAMETER, UNACCEPTABLE_HOLD_TIME, VERSION}
 use Rattle.xb_wire.specs.Messages.{Notification, notification}
+use Rattle.bgp_open.specs.declared.TheConstants.{MY_AS, HOLD_TIME, IDENTIFIER, PARAMETERS_LENGTH, PARAMETERS, CAPABILITIES, FIELD_HEADER, MIN_HOLD}
 use Rattle.bgp_open.specs.declared.OpenSeen.{OpenSeen}
 
--- a parameter or a capability: a type, a length, and that many octets
-abbrev pub field_size : List ℕ → Option ℕ
-field_size s = if nat_le 2 (length s) && nat_le (2 + slice_index s 1) (length s) then Some (2 + slice_index s 1) else None
+-- an error of an OPEN with its data
+abbrev pub open_error : ℕ → List ℕ → Notification
+open_error subcode octets = notification OPEN_MESSAGE_ERROR subcode octets
 
--- the field at the front, and what is behind it
+-- the length of the parameter or the capability at the front: a type, a length, and that many octets; None if no whole
+-- one is there
+abbrev pub field_size : List ℕ → Option ℕ
+field_size s =
+    if nat_le FIELD_HEADER (length s) && nat_le (FIELD_HEADER + slice_index s 1) (length s)
+    then Some (FIELD_HEADER + slice_index s 1) else None
+
+-- the field at the front, and the octets after it (for `split_field`)
 abbrev pub front_field : List ℕ → Option (List ℕ × List ℕ)
 front_field s = option_map (λ n. (take n s, drop n s)) (field_size s)
 
-abbrev pub type_of : List ℕ → ℕ
-type_of field = slice_index field 0
+-- the parts of a field
+abbrev pub field_type : List ℕ → ℕ
+field_type field = slice_index field 0
 
-abbrev pub value_of : List ℕ → List ℕ
-value_of field = drop 2 field
+abbrev pub field_value : List ℕ → List ℕ
+field_value field = drop FIELD_HEADER field
 
--- nothing is left behind the last field
+-- nothing is left after the last field
 unfoldable pub fills : List ℕ → Bool
 fills octets = length (cut field_size octets).rest == 0
 
+-- the parameters of a body
 abbrev pub parameters : List ℕ → List ℕ
-parameters body = drop 10 body
+parameters body = drop PARAMETERS body
 
--- a parameter that is no capabilities parameter, or whose capabilities do not fill it
+-- a parameter does not hold capabilities, or they do not fill it
 abbrev pub parameter_fault : List ℕ → Option Notification
 parameter_fault p =
-    if not (type_of p == 2) then Some (notification 2 4 [])
-    else if not (fills (value_of p)) then Some (notification 2 0 [])
+    if not (field_type p == CAPABILITIES) then Some (open_error UNSUPPORTED_OPTIONAL_PARAMETER [])
+    else if not (fills (field_value p)) then Some (open_error UNSPECIFIC [])
     else None
 
-abbrev pub first_fault : List (List ℕ) → Option Notification
-first_fault [] = None
-first_fault (p ∷ ps) = or_else (parameter_fault p) (first_fault ps)
+-- the fault of the first parameter that has one
+abbrev pub first_parameter_fault : List (List ℕ) → Option Notification
+first_parameter_fault [] = None
+first_parameter_fault (p ∷ ps) = or_else (parameter_fault p) (first_parameter_fault ps)
 
--- the parameters in order; one that runs past the end is the last
+-- the first fault of the parameters in order; one that runs past the end is the last
 unfoldable pub parameters_fault : List ℕ → Option Notification
-parameters_fault octets = or_else (first_fault (cut field_size octets).items) (if fills octets then None else Some (notification 2 0 []))
+parameters_fault octets =
+    or_else (first_parameter_fault (cut field_size octets).items)
+    (if fills octets then None else Some (open_error UNSPECIFIC []))
 
+-- a hold time of 1 or 2 seconds
 abbrev pub is_short_hold : ℕ → Bool
-is_short_hold hold = hold == 1 || hold == 2
+is_short_hold hold = not (hold == 0) && nat_lt hold MIN_HOLD
 
 -- the first fault before the parameters, the last being a length that is not theirs
 abbrev pub fixed_fault : List ℕ → ℕ → Option Notification
 fixed_fault body peer_as =
-    if not (slice_index body 0 == 4) then Some (notification 2 1 (two_octets 4))
-    else if not (two_at body 1 == peer_as) then Some (notification 2 2 [])
-    else if is_short_hold (two_at body 3) then Some (notification 2 6 [])
-    else if four_at body 5 == 0 then Some (notification 2 3 [])
-    else if not (slice_index body 9 == length (parameters body)) then Some (notification 2 0 [])
+    if not (slice_index body 0 == VERSION) then Some (open_error UNSUPPORTED_VERSION_NUMBER (two_octets VERSION))
+    else if not (two_at body MY_AS == peer_as) then Some (open_error BAD_PEER_AS [])
+    else if is_short_hold (two_at body HOLD_TIME) then Some (open_error UNACCEPTABLE_HOLD_TIME [])
+    else if four_at body IDENTIFIER == 0 then Some (open_error BAD_BGP_IDENTIFIER [])
+    else if not (slice_index body PARAMETERS_LENGTH == length (parameters body)) then Some (open_error UNSPECIFIC [])
     else None
 
 -- the first fault of a body of at least 10 octets
 unfoldable pub judge_open : List ℕ → ℕ → Option Notification
 judge_open body peer_as = or_else (fixed_fault body peer_as) (parameters_fault (parameters body))
 
-abbrev pub seen : List ℕ → OpenSeen
-seen body = record { hold = two_at body 3; id = four_at body 5 }
+-- what the body of an accepted OPEN says
+abbrev pub open_seen : List ℕ → OpenSeen
+open_seen body = record { hold = two_at body HOLD_TIME; id = four_at body IDENTIFIER }

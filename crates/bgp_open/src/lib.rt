@@ -1,18 +1,54 @@
-//! The judgement of an OPEN (RFC 4271, sections 4.2 and 6.2), with its capabilities parameters (RFC 5492, section 4),
-//! whose contents are read over.
+//! The judgement of an OPEN (RFC 4271, sections 4.2 and 6.2; RFC 5492, section 4).
 //!
-//! It stands on `xb_base`. `specs/Opens` says which fault is the first, as a search over lists of parameters; the code is
-//! one pass that takes no memory.
+//! The body of an OPEN comes in, without its header, and what the peer must be. [`read_open`] judges the fields in a
+//! fixed order, which is this project's own: version, AS number, hold time, identifier, length of the parameters, and
+//! then one parameter after another. The first fault goes out as the [`Notice`] that a NOTIFICATION sends; an OPEN
+//! without fault gives its hold time and its identifier.
+//!
+//! A parameter must hold capabilities. They must fill it, and are otherwise not read, so nothing is negotiated. Which
+//! fault is the first is defined in `specs/Opens` as a search over the list of parameters; the code is one pass and
+//! takes no memory.
 #![tactic(auto)]
 
-ghost use Rattle.std.specs.Prelude.{◌≡◌, ◌≤◌, [], length, IfOk, IfErr, Some, None};
+ghost use Rattle.std.specs.Prelude.{◌≡◌, ◌≤◌, [], length, IfOk, IfErr, IfSome, Some, None};
 ghost use Rattle.std.specs.Option.{option_map};
-ghost use Rattle.xb_wire.specs.Messages.{notification};
 ghost use Rattle.xb_wire.specs.Views.{notice_view};
-ghost use Rattle.bgp_open.specs.Opens.{front_field, fills, parameter_fault, parameters_fault, fixed_fault, judge_open, seen};
+ghost use Rattle.bgp_open.specs.Opens.{front_field, fills, open_error, parameter_fault, parameters_fault};
+ghost use Rattle.bgp_open.specs.Opens.{judge_open, open_seen};
 
 use xb_wire::Notice;
+use xb_wire::numbers::{
+    BAD_BGP_IDENTIFIER, BAD_PEER_AS, OPEN_MESSAGE_ERROR, UNACCEPTABLE_HOLD_TIME, UNSPECIFIC,
+    UNSUPPORTED_OPTIONAL_PARAMETER, UNSUPPORTED_VERSION_NUMBER, VERSION,
+};
 use xb_words::{u16_at, u32_at};
+
+/// The offset in an OPEN's body of the peer's AS number, after the version (RFC 4271, section 4.2).
+pub const MY_AS: usize = 1;
+
+/// The offset of the hold time.
+pub const HOLD_TIME: usize = 3;
+
+/// The offset of the BGP identifier.
+pub const IDENTIFIER: usize = 5;
+
+/// The offset of the length of the parameters.
+pub const PARAMETERS_LENGTH: usize = 9;
+
+/// The offset of the parameters, and so the least length of a body.
+pub const PARAMETERS: usize = 10;
+
+/// The type of the parameter that holds capabilities (RFC 5492, section 4).
+pub const CAPABILITIES: u8 = 2;
+
+// The octets of a parameter or a capability before its value: a type and a length.
+const FIELD_HEADER: usize = 2;
+
+// The least hold time that is not 0 (RFC 4271, section 4.2).
+const MIN_HOLD: u16 = 3;
+
+// The version that is supported, as the data of a notice.
+static SUPPORTED_VERSION: [u8; 2] = [0, VERSION];
 
 /// What an OPEN must match: the AS number of the peer.
 #[derive(Clone, Copy, Debug, PartialEq, Eq)]
@@ -20,134 +56,119 @@ pub struct OpenWant {
     pub peer_as: u32,
 }
 
-/// What an accepted OPEN says: its hold time in seconds, and its identifier.
+/// What an accepted OPEN says: its hold time in seconds, and its identifier, whose high octet is the first of its
+/// dotted form.
 #[derive(Clone, Copy, Debug, PartialEq, Eq)]
 pub struct OpenSeen {
     pub hold: u16,
     pub id: u32,
 }
 
-const VERSION: u8 = 4;
-
-// The version that is wanted, as a NOTIFICATION tells it.
-static WANTED_VERSION: [u8; 2] = [0, VERSION];
-
-// The parameter that holds capabilities.
-const CAPABILITIES: u8 = 2;
-
-// A fault of OPEN without data.
-fn refused(subcode: u8) -> Notice<'static>
-    ensures { notice_view result ≡ notification 2 subcode [] }
+// An error of an OPEN, without data.
+fn error(subcode: u8) -> Notice<'static>
+    ensures says { notice_view result ≡ open_error subcode [] }
+    ensures data { length result.extra.now ≡ 0 }
 {
     Notice {
-        code: 2,
+        code: OPEN_MESSAGE_ERROR,
         subcode,
         extra: &[],
     }
 }
 
-// The field at the front, a parameter or a capability, and what stands behind it.
+// The field at the front, a parameter or a capability, and the octets after it. None if no whole field is there.
 fn split_field(octets: &[u8]) -> Option<(&[u8], &[u8])>
     ensures { option_map (λ p. (p.0.now, p.1.now)) result ≡ front_field octets.now }
 {
-    if octets.len() < 2 {
+    if octets.len() < FIELD_HEADER {
         return None;
     }
-    let size = 2 + usize::from(octets[1]);
+    let size = FIELD_HEADER + usize::from(octets[1]);
     if octets.len() < size {
         return None;
     }
     Some(octets.split_at(size))
 }
 
-// Whether fields fill the octets to their end.
-#[tactic(auto, using(crate::proofs::Fields::walks))]
+// Whether fields fill the octets.
+#[tactic(auto, using(crate::proofs::OpensLemmas::walks))]
 fn fills(octets: &[u8]) -> bool
     ensures { result ≡ fills octets.now }
 {
     let mut rest = octets;
-    while let Some((_, behind)) = split_field(rest) {
-        rest = behind;
+    'fields: while let Some((_, after)) = split_field(rest) {
+        rest = after;
     }
     rest.is_empty()
 }
 
 fn fault_of_parameter(parameter: &[u8]) -> Option<Notice<'static>>
-    requires { 2 ≤ length parameter.now }
-    ensures { option_map notice_view result ≡ parameter_fault parameter.now }
+    requires { FIELD_HEADER ≤ length parameter.now }
+    ensures fault { option_map notice_view result ≡ parameter_fault parameter.now }
+    ensures data { IfSome result (λ n. length n.extra.now ≡ 0) }
 {
     if parameter[0] != CAPABILITIES {
-        Some(refused(4))
-    } else if !fills(&parameter[2..]) {
-        Some(refused(0))
+        Some(error(UNSUPPORTED_OPTIONAL_PARAMETER))
+    } else if !fills(&parameter[FIELD_HEADER..]) {
+        Some(error(UNSPECIFIC))
     } else {
         None
     }
 }
 
-#[tactic(auto, using(crate::proofs::Fields::walks))]
+// The first fault of the parameters, in order.
+#[tactic(auto, using(crate::proofs::OpensLemmas::walks))]
 fn fault_of_parameters(octets: &[u8]) -> Option<Notice<'static>>
-    ensures { option_map notice_view result ≡ parameters_fault octets.now }
+    ensures fault { option_map notice_view result ≡ parameters_fault octets.now }
+    ensures data { IfSome result (λ n. length n.extra.now ≡ 0) }
 {
     let mut rest = octets;
-    while let Some((parameter, behind)) = split_field(rest) {
+    'parameters: while let Some((parameter, after)) = split_field(rest) {
         if let Some(notice) = fault_of_parameter(parameter) {
             return Some(notice);
         }
-        rest = behind;
+        rest = after;
     }
     if rest.is_empty() {
         None
     } else {
-        Some(refused(0))
+        Some(error(UNSPECIFIC))
     }
 }
 
-// The part before the parameters, and the parameters' length.
-fn fault_of_fixed_part(body: &[u8], peer_as: u32) -> Option<Notice<'static>>
-    requires { 10 ≤ length body.now }
-    ensures { option_map notice_view result ≡ fixed_fault body.now peer_as }
-{
-    let hold = u16_at(body, 3);
-    if body[0] != VERSION {
-        Some(Notice {
-            code: 2,
-            subcode: 1,
-            extra: &WANTED_VERSION,
-        })
-    } else if u32::from(u16_at(body, 1)) != peer_as {
-        Some(refused(2))
-    } else if hold == 1 || hold == 2 {
-        Some(refused(6))
-    } else if u32_at(body, 5) == 0 {
-        Some(refused(3))
-    } else if usize::from(body[9]) != body.len() - 10 {
-        Some(refused(0))
-    } else {
-        None
-    }
-}
-
-/// Judges the body of an OPEN of at least 10 octets. The data of a fault is empty but for a version that isn't 4, where it is
-/// the version that is wanted, in two octets.
+/// Reads the body of an OPEN, which has at least 10 octets after the message's header, or returns its first fault. The
+/// data of a fault is empty, except for a version other than 4: there it is the supported version, in two octets.
 #[tactic(auto, unfolding(crate::specs::Opens::judge_open))]
 pub fn read_open<'a>(body: &'a [u8], want: &OpenWant) -> Result<OpenSeen, Notice<'a>>
-    requires { 10 ≤ length body.now }
+    requires { PARAMETERS ≤ length body.now }
     ensures fault { IfErr result (λ n. judge_open body.now want.now.peer_as ≡ Some (notice_view n)) }
     ensures accepted { IfOk result (λ o. judge_open body.now want.now.peer_as ≡ None) }
-    ensures values { IfOk result (λ o. o ≡ seen body.now) }
+    ensures values { IfOk result (λ o. o ≡ open_seen body.now) }
+    ensures data { IfErr result (λ n. length n.extra.now ≤ 2) }
 {
-    if let Some(notice) = fault_of_fixed_part(body, want.peer_as) {
+    let hold = u16_at(body, HOLD_TIME);
+    let id = u32_at(body, IDENTIFIER);
+    if body[0] != VERSION {
+        return Err(Notice {
+            code: OPEN_MESSAGE_ERROR,
+            subcode: UNSUPPORTED_VERSION_NUMBER,
+            extra: &SUPPORTED_VERSION,
+        });
+    }
+    if u32::from(u16_at(body, MY_AS)) != want.peer_as {
+        return Err(error(BAD_PEER_AS));
+    }
+    if hold != 0 && hold < MIN_HOLD {
+        return Err(error(UNACCEPTABLE_HOLD_TIME));
+    }
+    if id == 0 {
+        return Err(error(BAD_BGP_IDENTIFIER));
+    }
+    if usize::from(body[PARAMETERS_LENGTH]) != body.len() - PARAMETERS {
+        return Err(error(UNSPECIFIC));
+    }
+    if let Some(notice) = fault_of_parameters(&body[PARAMETERS..]) {
         return Err(notice);
     }
-    if let Some(notice) = fault_of_parameters(&body[10..]) {
-        return Err(notice);
-    }
-    Ok(OpenSeen {
-        hold: u16_at(body, 3),
-        id: u32_at(body, 5),
-    })
+    Ok(OpenSeen { hold, id })
 }
-
-#[cfg(test)]
-mod tests;

@@ -1,4 +1,3 @@
-pub mod Prepending
-pub mod Rereading
-pub mod Splitting
-pub mod Wholes
+pub mod NumbersLemmas
+pub mod PrependLemmas
+pub mod SplitsLemmas

@@ -1,12 +1,13 @@
-//! AS paths (RFC 4271, sections 4.3, 5.1.2 and 9.1.2), read where they stand.
+//! AS paths (RFC 4271, sections 4.3, 5.1.2 and 9.1.2), read in place.
 //!
-//! [`Segments`] walks over the segments of an AS_PATH and hands out the AS numbers of each as octets of the value.
-//! Whatever it has handed out, its other calls speak of the whole path: its length, whether an AS stands in it, its
-//! leftmost AS, and the path with one AS more in front, which goes into a slice of the caller. No memory is taken.
+//! The value of an AS_PATH comes in as a slice. [`Segments::new`] accepts it if segments fill it, and the walk then
+//! returns the segments one after another, each with its AS numbers as octets of the value. However far the walk has
+//! come, the other calls are about the whole path: its length, whether an AS number is in it, its leftmost AS number,
+//! and the path with one AS number prepended, which is written into a slice of the caller. No memory is taken.
 //!
-//! It stands on bgp_attr, which says which values are paths and what their segments are. `specs/Parts` has what the
-//! walk gives, and `specs/Fronts` what it is to write a text to the front of a slice. Definitions and lemmas have the
-//! octets of an AS number, two or four, as an argument.
+//! What a path is, is defined in bgp_attr's `specs/Paths`. Here `specs/Parts` has what the walk returns, and
+//! `specs/Fronts` what it is to write a text to the front of a slice. The octets of an AS number are an argument in
+//! definitions and lemmas: the functions are written for two octets and for four, of which [`Segments::new`] takes two.
 #![tactic(auto)]
 
 pub mod laws;
@@ -14,6 +15,3 @@ mod numbers;
 mod segments;
 
 pub use segments::{Segment, Segments};
-
-#[cfg(test)]
-mod tests;

@@ -4,7 +4,7 @@ ghost use Rattle.std.specs.List.{list_any};
 ghost use Rattle.bgp_attr.specs.Paths.{first_number, number_octets, numbers_of};
 ghost use Rattle.bgp_path.specs.Parts.{width_of};
 
-use xb_words::{u16_at, u32_at};
+use xb_words::{copy_at, u16_at, u32_at};
 
 // The octets of an AS number.
 pub(crate) fn width(wide: bool) -> usize
@@ -25,7 +25,7 @@ pub(crate) fn number_at_front(octets: &[u8], wide: bool) -> u32
     }
 }
 
-// Whether an AS number is among so many.
+// Whether `asn` is one of the first `count` numbers.
 pub(crate) fn has_number(octets: &[u8], count: u8, wide: bool, asn: u32) -> bool
     requires { length octets.now ≡ width_of wide * count }
     ensures { result ≡ list_any (λ n. n == asn) (numbers_of (width_of wide) count octets.now) }
@@ -42,23 +42,15 @@ pub(crate) fn has_number(octets: &[u8], count: u8, wide: bool, asn: u32) -> bool
     false
 }
 
-// Puts octets at a place.
-pub(crate) fn put(out: &mut [u8], at: usize, octets: &[u8])
-    requires { at + length octets.now ≤ length out.old }
-    ensures { out.new ≡ take at out.old ++ octets.now ++ drop (at + length octets.now) out.old }
-{
-    out[at..at + octets.len()].copy_from_slice(octets);
-}
-
-// Puts an AS number at a place.
-pub(crate) fn put_number(out: &mut [u8], at: usize, asn: u32, wide: bool)
+// Writes an AS number at the offset `at`.
+pub(crate) fn write_number(out: &mut [u8], at: usize, asn: u32, wide: bool)
     requires room { at + width_of wide ≤ length out.old }
     requires asn { wide ≡ false → asn ≤ 65535 }
     ensures { out.new ≡ take at out.old ++ number_octets (width_of wide) asn ++ drop (at + width_of wide) out.old }
 {
     if wide {
-        put(out, at, &asn.to_be_bytes());
+        copy_at(out, at, &asn.to_be_bytes());
     } else {
-        put(out, at, &(asn as u16).to_be_bytes());
+        copy_at(out, at, &(asn as u16).to_be_bytes());
     }
 }

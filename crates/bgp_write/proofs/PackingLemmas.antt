@@ -95,7 +95,7 @@ length_grown false start out x is =
     omega (arith, ap length is.whole, length-append (s ++ p) [], length-append s p, length-append s (p ++ x), length-append p x)
 
 -- what is so after octets of prefixes were inserted
-pub ruleset packing_grown = (packed_in_grown, is_grown, length_grown)
+pub ruleset insert_rules = (packed_in_grown, is_grown, length_grown)
 
 -- an UPDATE by its two lengths and the octets after them
 abbrev update_by : ℕ → ℕ → List ℕ → List ℕ

@@ -1,10 +1,10 @@
 -- An UPDATE that is being packed (RFC 4271, section 4.3).
-use Rattle.std.specs.Prelude.{◌≡◌, ℕ, ◌-◌, ◌≤◌, Bool, true, false, List, [], ◌∷◌, ◌++◌, length, replicate, slice_index, slice_range, if◌then◌else◌}
+use Rattle.std.specs.Prelude.{◌≡◌, ℕ, ◌+◌, ◌-◌, ◌≤◌, Bool, true, false, List, [], ◌∷◌, ◌++◌, length, replicate, slice_index, slice_range, if◌then◌else◌}
 use Rattle.xb_words.specs.Octets.{two_octets}
 use Rattle.xb_values.specs.Buffers.{Buffer}
 use Rattle.xb_values.specs.Prefixes.{Prefix, prefix_octets}
 use Rattle.xb_wire.specs.Messages.{Update, update_message}
-use Rattle.xb_wire.specs.declared.numbers.TheConstants.{EMPTY_UPDATE, MAX_MESSAGE, UPDATE}
+use Rattle.xb_wire.specs.declared.numbers.TheConstants.{MARKER, HEADER, EMPTY_UPDATE, MAX_MESSAGE, UPDATE}
 use Rattle.bgp_write.specs.Written.{with_two}
 
 -- what is packed so far: whether prefixes are withdrawn or announced, the section with which they are announced, and
@@ -41,7 +41,7 @@ packed_message p = update_message (packed_update p)
 
 -- the header of an UPDATE, whose length field is a and b, and the length of its withdrawn prefixes, c and d
 abbrev pub header_with : ℕ → ℕ → ℕ → ℕ → List ℕ
-header_with a b c d = replicate 16 255 ++ a ∷ b ∷ UPDATE ∷ c ∷ d ∷ []
+header_with a b c d = replicate MARKER 255 ++ a ∷ b ∷ UPDATE ∷ c ∷ d ∷ []
 
 -- a section after its length
 abbrev pub sized : List ℕ → List ℕ
@@ -58,10 +58,10 @@ section_in withdraws start octets = if withdraws then [] else slice_range octets
 -- the octets before the prefixes; the lengths that prefixes change may be any
 abbrev pub front_in : Bool → ℕ → List ℕ → List ℕ
 front_in withdraws start octets =
-    if withdraws then
-    header_with (slice_index octets 16) (slice_index octets 17) (slice_index octets 19) (slice_index octets 20)
-    else
-    header_with (slice_index octets 16) (slice_index octets 17) 0 0 ++ sized (slice_range octets EMPTY_UPDATE start)
+    let high = slice_index octets MARKER in
+    let low = slice_index octets (MARKER + 1) in
+    if withdraws then header_with high low (slice_index octets HEADER) (slice_index octets (HEADER + 1))
+    else header_with high low 0 0 ++ sized (slice_range octets EMPTY_UPDATE start)
 
 -- the octets of the prefixes
 abbrev pub prefixes_in : Bool → ℕ → List ℕ → List ℕ
@@ -86,5 +86,5 @@ pub record IsPacking (withdraws : Bool) (start : ℕ) (out : Buffer) : Type 0 wh
 -- the octets with their lengths written
 abbrev pub sealed : Bool → List ℕ → List ℕ
 sealed withdraws octets =
-    let whole = with_two octets 16 (length octets) in
-    if withdraws then with_two whole 19 (length octets - EMPTY_UPDATE) else whole
+    let whole = with_two octets MARKER (length octets) in
+    if withdraws then with_two whole HEADER (length octets - EMPTY_UPDATE) else whole

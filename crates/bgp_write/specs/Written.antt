@@ -3,7 +3,7 @@ use Rattle.std.specs.Prelude.{◌≡◌, ℕ, ◌+◌, List, [], ◌∷◌, ◌+
 use Rattle.xb_words.specs.Octets.{two_octets, four_octets}
 use Rattle.xb_values.specs.Buffers.{Buffer}
 use Rattle.xb_wire.specs.Messages.{message}
-use Rattle.xb_wire.specs.declared.numbers.TheConstants.{HEADER, OPEN, NOTIFICATION, KEEPALIVE, VERSION}
+use Rattle.xb_wire.specs.declared.numbers.TheConstants.{MARKER, HEADER, OPEN, NOTIFICATION, KEEPALIVE, VERSION}
 
 -- the content of a buffer is replaced, and its capacity stays
 abbrev pub Replaces : Buffer → Buffer → List ℕ → Type 0
@@ -32,4 +32,4 @@ with_two octets at n =
 
 -- (for private calls) the header of a message whose body has `size` octets
 abbrev pub header : ℕ → ℕ → List ℕ
-header kind size = replicate 16 255 ++ two_octets (HEADER + size) ++ kind ∷ []
+header kind size = replicate MARKER 255 ++ two_octets (HEADER + size) ++ kind ∷ []

@@ -7,7 +7,7 @@ ghost use Rattle.bgp_write.specs.Packings.{packed_message, with_prefix, withdraw
 ghost use Rattle.bgp_write.specs.Packings.{header_with, sized, tail_of, sealed, IsPacking};
 
 use xb_values::{Buf, Prefix};
-use xb_wire::numbers::{EMPTY_UPDATE, MAX_MESSAGE, MAX_SECTION};
+use xb_wire::numbers::{EMPTY_UPDATE, HEADER, MARKER, MAX_MESSAGE, MAX_SECTION};
 
 // The header of an UPDATE, and the length of its withdrawn prefixes; both lengths are still 0.
 const OPENING: [u8; 21] = [
@@ -83,9 +83,9 @@ fn seal(out: &mut Buf, withdraws: bool)
     ensures { Replaces out.old out.new (sealed withdraws out.old.octets) }
 {
     let size = out.len() as u16;
-    set_two(out, 16, size);
+    set_two(out, MARKER, size);
     if withdraws {
-        set_two(out, 19, size - EMPTY_UPDATE as u16);
+        set_two(out, HEADER, size - EMPTY_UPDATE as u16);
     }
 }
 
@@ -136,7 +136,7 @@ impl<'a> Packer<'a> {
 
     /// Appends a prefix to the others. It is false exactly if the message would have more than 4,096 octets, and then
     /// nothing changed.
-    #[tactic(auto, using(crate::proofs::PackingLemmas::packing_grown))]
+    #[tactic(auto, using(crate::proofs::PackingLemmas::insert_rules))]
     pub fn push(&mut self, prefix: Prefix) -> bool
         ensures same_reference { reference_of self.new ≡ reference_of self.old }
         ensures capacity { (buffer_of self.new).capacity ≡ (buffer_of self.old).capacity }

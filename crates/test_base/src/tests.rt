@@ -1,8 +1,9 @@
 use std::fs;
 use std::test::Fail;
 use xb_base::{
-    Buf, FileShelf, MemShelf, MemSink, Prefix, Shelf, Sink, StdSink, push_decimal, push_dotted,
-    push_hex, push_prefix, read_decimal, read_dotted, read_prefix,
+    Brand, Buf, FileShelf, MemShelf, MemSink, Output, Outputs, Prefix, Shelf, Sink, StdSink, Steps,
+    gather, push_decimal, push_dotted, push_hex, push_prefix, put_text, read_decimal, read_dotted,
+    read_prefix,
 };
 
 #[test]
@@ -87,4 +88,41 @@ fn calls_in_memory_fail_by_number(rt: HostRuntime) -> Result<(), Fail> {
     assert!(rt; sink.put(b"cd").is_err());
     assert_eq!(rt; sink.taken(), b"abc".as_slice());
     Ok(())
+}
+
+#[test]
+fn a_full_page_goes_to_the_sink(rt: HostRuntime) -> Result<(), Fail> {
+    let mut sink = MemSink::make(rt.alloc(), 8)?;
+    let mut page = Buf::make(rt.alloc(), 4)?;
+    assert!(rt; gather(&mut page, b"abc", &mut sink).is_ok());
+    assert_eq!(rt; sink.taken(), b"".as_slice());
+    assert!(rt; gather(&mut page, b"de", &mut sink).is_ok());
+    assert_eq!(rt; sink.taken(), b"abc".as_slice());
+    assert!(rt; put_text(&mut sink, page.as_slice()).is_ok());
+    assert_eq!(rt; sink.taken(), b"abcde".as_slice());
+    Ok(())
+}
+
+#[test]
+fn outputs_are_moved(rt: HostRuntime) -> Result<(), Fail> {
+    let mut outputs = Outputs::make(rt.alloc())?;
+    outputs.add(Output::Sent(1, b"ab"))?;
+    assert_eq!(rt; outputs.len(), 1);
+    let mut more = Outputs::make(rt.alloc())?;
+    more.add(Output::Up(2))?;
+    more.append(&mut outputs)?;
+    assert_eq!(rt; outputs.len(), 0);
+    assert_eq!(rt; more.len(), 2);
+    assert!(rt; matches!(more.get(0), Output::Up(2)));
+    assert!(rt; matches!(more.get(1), Output::Sent(1, [b'a', b'b'])));
+    more.clear();
+    assert_eq!(rt; more.len(), 0);
+    Ok(())
+}
+
+#[test]
+fn steps_are_counted(rt: HostRuntime) {
+    let mut steps = Steps::<Brand>::start();
+    steps.tick();
+    assert_eq!(rt; steps.count(), 1);
 }

@@ -4,3 +4,9 @@
 
 #[cfg(test)]
 mod attributes;
+#[cfg(test)]
+mod opens;
+#[cfg(test)]
+mod paths;
+#[cfg(test)]
+mod updates;

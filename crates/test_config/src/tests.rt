@@ -1,48 +1,45 @@
 mod accepted;
-mod entries;
 mod limits;
-mod order;
-mod tables;
+mod texts;
 
 use std::alloc::Global;
 use std::process::Abort;
 use std::test::Fail;
-use xb_domain::{BadKind, Part};
-use xbgp_config::{ConfigError, ConfigFault, read_config};
+use xbgp_config::read_config;
 
-// A text, and the fault that is answered: its kind, its part and its position.
-type Case = (&'static str, BadKind, Part, u32);
+// A text, and what is read of it: "good", or the fault.
+type Case = (&'static str, &'static str);
 
 // A speaker's table without a fault.
 const SPEAKER: &str = "speaker = {as = 65000, id = '192.0.2.254', address = '192.0.2.254'}\n";
 
-fn fault(kind: BadKind, part: Part, index: u32) -> Option<ConfigFault> {
-    Some(ConfigFault { kind, part, index })
-}
-
-fn fault_in(alloc: Global, text: &[u8]) -> Result<Option<ConfigFault>, Fail> {
+// "good", or the error as it is displayed.
+fn judged(alloc: Global, text: &[u8]) -> Result<String, Fail> {
     match read_config(alloc, text) {
-        Ok(_) => Ok(None),
-        Err(ConfigError::Bad(fault)) => Ok(Some(fault)),
-        Err(ConfigError::OutOfMemory) => Err("out of memory")?,
+        Ok(_) => Ok(String::from_str(alloc, "good")?),
+        Err(error) => Ok(format!(in alloc; "{error}")?),
     }
 }
 
-// Each text behind the one before them all has its fault.
-fn expect_faults(rt: &impl Abort, alloc: Global, before: &str, cases: &[Case]) -> Result<(), Fail> {
-    for (text, kind, part, index) in cases {
-        let whole = format!(in alloc; "{before}{text}")?;
-        let want = fault(*kind, *part, *index);
-        assert_eq!(rt; fault_in(alloc, whole.as_bytes())?, want, "{text}");
+// Each text of a table, after the text before it, is read as its case says.
+fn expect(rt: &(impl AllocGlobal + Abort), before: &str, cases: &[Case]) -> Result<(), Fail> {
+    for (text, want) in cases {
+        let whole = format!(in rt.alloc(); "{before}{text}")?;
+        assert_eq!(rt;
+            judged(rt.alloc(), whole.as_bytes())?.as_str(),
+            *want,
+            "{text}"
+        );
     }
     Ok(())
 }
 
-// Each text behind the one before them all has no fault.
-fn expect_good(rt: &impl Abort, alloc: Global, before: &str, texts: &[&str]) -> Result<(), Fail> {
-    for text in texts {
-        let whole = format!(in alloc; "{before}{text}")?;
-        assert_eq!(rt; fault_in(alloc, whole.as_bytes())?, None, "{text}");
+#[test]
+fn texts_are_judged(rt: HostRuntime) -> Result<(), Fail> {
+    for (before, cases) in texts::TABLES {
+        expect(&rt, before, cases)?;
     }
+    let no_text = judged(rt.alloc(), &[b'#', 0xff, b'\n'])?;
+    assert_eq!(rt; no_text.as_str(), "Text in Top 0");
     Ok(())
 }

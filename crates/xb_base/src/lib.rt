@@ -11,7 +11,8 @@ pub use xb_io::{
     Failed, FileShelf, Halt, MemShelf, MemSink, Shelf, Sink, StdSink, begin_line, gather, put_text,
 };
 pub use xb_values::{
-    Brand, Buf, Prefix, Steps, append_decimal, append_hex, append_prefix, push_decimal,
-    push_dotted, push_hex, push_prefix, read_decimal, read_dotted, read_prefix, split_once,
+    Brand, Buf, MAX_DECIMAL, MAX_PREFIX_TEXT, Prefix, Steps, append_decimal, append_hex,
+    append_prefix, push_decimal, push_dotted, push_hex, push_prefix, read_decimal, read_dotted,
+    read_prefix, split_once,
 };
 pub use xb_wire::{HeaderFault, Next, Notice, fault_in_header, front_of, laws, numbers};

@@ -1,5 +1,5 @@
-/// One thing that one actor does: the operator, a peer's transport, or the clock. The first number is the peer's, from 1,
-/// except in `Time`.
+/// One thing that one actor does: the operator, a peer's transport, or the clock. The first number is the peer's, from
+/// 1, except in `Time`.
 #[derive(Clone, Copy, Debug)]
 pub enum Event<'a> {
     /// The operator starts the session.

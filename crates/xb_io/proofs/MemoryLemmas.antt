@@ -17,11 +17,15 @@ abbrev named : List (String Global × Vec ℕ Global) → List ℕ → Option (V
 named es name = lookup (is_at (λ k. slice_cmp nat_cmp name (string_bytes k))) es
 
 -- a look-up by a name among the entries is one among the files
-pub file_named_in_entries : (es : List (String Global × Vec ℕ Global)) (name : List ℕ) → file_named (files_of es) name ≡ option_map (λ v. v.items) (named es name)
+pub file_named_in_entries : (es : List (String Global × Vec ℕ Global)) (name : List ℕ)
+    → file_named (files_of es) name ≡ option_map (λ v. v.items) (named es name)
 file_named_in_entries [] name = refl
 file_named_in_entries (e ∷ es) name =
-    ap (λ (b : Bool). cond b (Some e.1.items) (file_named (files_of es) name)) (sym (is_eq-slice_cmp name (string_bytes e.0)))
-    ∙ elim (is_eq (slice_cmp nat_cmp name (string_bytes e.0))) as (λ b. cond b (Some e.1.items) (file_named (files_of es) name) ≡ option_map (λ v. v.items) (cond b (Some e.1) (named es name))) [
+    ap (λ (b : Bool). cond b (Some e.1.items) (file_named (files_of es) name))
+    (sym (is_eq-slice_cmp name (string_bytes e.0)))
+    ∙ elim (is_eq (slice_cmp nat_cmp name (string_bytes e.0))) as
+    (λ b. cond b (Some e.1.items) (file_named (files_of es) name)
+    ≡ option_map (λ v. v.items) (cond b (Some e.1) (named es name))) [
       | true ↦ refl
       | false ↦ file_named_in_entries es name
     ]
@@ -32,7 +36,8 @@ pub HoldsAlso-insert : (old new : BTreeMap (String Global) (Vec ℕ Global)) (na
 HoldsAlso-insert old new name octets updates = λ other.
     file_named_in_entries new.entries other
     ∙ ap (option_map (λ v. v.items)) (btree_map_updates_text name old new (Some octets) updates other)
-    ∙ elim (bytes_eq name other) as (λ b. option_map (λ v. v.items) (cond b (Some octets) (get_by_text old other)) ≡ cond b (Some octets.items) (file_named (files_of old.entries) other)) [
+    ∙ elim (bytes_eq name other) as (λ b. option_map (λ v. v.items) (cond b (Some octets) (get_by_text old other))
+    ≡ cond b (Some octets.items) (file_named (files_of old.entries) other)) [
       | true ↦ refl
       | false ↦ sym (file_named_in_entries old.entries other)
     ]

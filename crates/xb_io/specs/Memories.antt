@@ -10,7 +10,8 @@ pub record Held : Type 0 where
   pub failing : List ℕ
   pub faults : ℕ
 
--- what was taken, how many octets that may be at most, how many calls were made, which calls fail, and how many faults there were
+-- what was taken, how many octets that may be at most, how many calls were made, which calls fail, and how many faults
+-- there were
 pub record Taken : Type 0 where
   pub taken : List ℕ
   pub room : ℕ

@@ -87,8 +87,8 @@ impl MemShelf {
         })
     }
 
-    /// Holds the octets under the name, and no longer those that it held there. The error is want of memory; then nothing
-    /// changed.
+    /// Holds the octets under the name, and no longer those that it held there. The error is want of memory; then
+    /// nothing changed.
     pub fn add(&mut self, name: &str, bytes: &[u8]) -> Result<(), AllocError>
         ensures held { OnOk result (HoldsAlso self.old.files self.new.files name.now bytes.now) }
         ensures others { OnOk result (self.new ≡ record self.old { files = self.new.files }) }
@@ -120,11 +120,13 @@ impl Shelf for MemShelf {
         ensures read { IfOk result (λ n. Reads (Some self.old.files) name.now at buf.new n) }
         ensures quiet { OnOk result (self.new.faults ≡ self.old.faults) }
         ensures later { self.old.faults ≤ self.new.faults }
-        ensures cause { OnErr result (FaultsRose self.old.faults self.new.faults ⊎ IsMissing (Some self.old.files) name.now) }
+        ensures cause { OnErr result
+            (FaultsRose self.old.faults self.new.faults ⊎ IsMissing (Some self.old.files) name.now) }
 
         // It fails exactly by the number of the call and at an absent name; the number alone counts as a fault.
         ensures counted { self.new ≡ record self.old { calls = one_more self.old.calls; faults = self.new.faults } }
-        ensures fails { IsErr result ↔ (Contains self.old.failing self.new.calls ⊎ IsNone (file_named self.old.files name.now)) }
+        ensures fails { IsErr result
+            ↔ (Contains self.old.failing self.new.calls ⊎ IsNone (file_named self.old.files name.now)) }
         ensures listed { Contains self.old.failing self.new.calls → self.new.faults ≡ one_more self.old.faults }
         ensures absent { ¬ Contains self.old.failing self.new.calls → self.new.faults ≡ self.old.faults }
     {

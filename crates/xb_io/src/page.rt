@@ -55,8 +55,8 @@ fn on_new_page<K: Sink>(page: &mut Buf, text: &[u8], sink: &mut K) -> Result<(),
     put_text(sink, text)
 }
 
-/// Appends text to the page. If it does not fit, the page is first written to the sink and emptied; a text that is longer
-/// than a page is then written to the sink itself. What is on the page in the end is for the caller to write.
+/// Appends text to the page. If it does not fit, the page is first written to the sink and emptied; a text that is
+/// longer than a page is then written to the sink itself. What is on the page in the end is for the caller to write.
 pub fn gather<K: Sink>(page: &mut Buf, text: &[u8], sink: &mut K) -> Result<(), Halt>
     ensures { Gathers K.took K.faults sink.old sink.new page.old.octets page.new.octets text.now result }
 {

@@ -8,8 +8,8 @@ use std::io::{Read, Seek, SeekFrom};
 use std::marker::Model;
 use std::rt::Files;
 
-// A file that is open, and the offset at which its next read begins. If there was no memory for its name, the file is opened
-// again for the next read.
+// A file that is open, and the offset at which its next read begins. If there was no memory for its name, the file is
+// opened again for the next read.
 #[derive(Drop)]
 struct OpenFile<F> {
     name: Option<String>,
@@ -17,8 +17,8 @@ struct OpenFile<F> {
     file: F,
 }
 
-/// The real files. It does not tell what they hold. The file that was read last stays open, so that a file that can only be
-/// read from its front, as a pipe, is read as well.
+/// The real files. It does not tell what they hold. The file that was read last stays open, so that a file that can
+/// only be read from its front, as a pipe, is read as well.
 #[derive(Drop)]
 pub struct FileShelf<'a, R: Files> {
     files: &'a R,

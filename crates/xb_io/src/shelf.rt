@@ -5,8 +5,8 @@ ghost use Rattle.xb_io.specs.Causes.{Files, Reads, FaultsRose, IsMissing, TookFr
 #[derive(Clone, Copy, Debug, PartialEq, Eq)]
 pub struct Failed;
 
-/// Octets under names, which reads do not change. A shelf whose meaning `held` is Some tells what it holds: a contract can
-/// then say what was read.
+/// Octets under names, which reads do not change. A shelf whose meaning `held` is Some tells what it holds: a contract
+/// can then say what was read.
 pub trait Shelf {
     /// The names with their octets, if the shelf tells.
     ghost held: { Self → Option Files };
@@ -14,14 +14,15 @@ pub trait Shelf {
     /// How often a call failed, up to 2^64 - 1.
     ghost faults: { Self → ℕ };
 
-    /// Reads from the named file, starting at offset `at`, and returns the number of octets read, which are at the front of
-    /// `buf`. The rest of `buf` is unspecified, as is all of it after `Failed`.
+    /// Reads from the named file, starting at offset `at`, and returns the number of octets read, which are at the
+    /// front of `buf`. The rest of `buf` is unspecified, as is all of it after `Failed`.
     fn read(&mut self, name: &str, at: u64, buf: &mut [u8]) -> Result<usize, Failed>
         ensures same { held self.new ≡ held self.old }
         ensures read { IfOk result (λ n. Reads (held self.old) name.now at buf.new n) }
         ensures quiet { OnOk result (faults self.new ≡ faults self.old) }
         ensures later { faults self.old ≤ faults self.new }
-        ensures cause { OnErr result (FaultsRose (faults self.old) (faults self.new) ⊎ IsMissing (held self.old) name.now) };
+        ensures cause { OnErr result
+            (FaultsRose (faults self.old) (faults self.new) ⊎ IsMissing (held self.old) name.now) };
 }
 
 /// What takes text. A sink whose meaning `took` is Some tells what it took.

@@ -1,4 +1,4 @@
--- An address that was cleared stays as it is.
+-- Laws of prefixes.
 use Rattle.std.proofs.Common.{inl, inr, [], ◌∷◌, length, Some, None, ◌&&◌, nat_le, ◌≡◌, ℕ, ◌+◌, ◌-◌, ◌*◌, ◌/◌, ◌^◌, ◌<◌, ◌≤◌, ap, arith}
 use Rattle.std.proofs.lemmas.Nat.{pow_pos}
 use Rattle.std.proofs.Math.Nat.{mul-div_cancel, div-mul-le_self}
@@ -11,9 +11,15 @@ use Rattle.xb_values.specs.Prefixes.{prefix_of, prefix_cmp, IsPrefix, octets_for
 cleared-cleared : (a s : ℕ) → 0 < s → a / s * s / s * s ≡ a / s * s
 cleared-cleared a s h = ap (λ (q : ℕ). q * s) (mul-div_cancel (a / s) h)
 
+-- `prefix_of` gives prefixes
 pub prefix_of_is_prefix : (addr len : ℕ) → addr < 2 ^ 32 → len ≤ 32 → IsPrefix (prefix_of addr len)
 prefix_of_is_prefix addr len word short =
-    record { len = short; addr = omega (arith, div-mul-le_self addr (2 ^ (32 - len))); clear = cleared-cleared addr (2 ^ (32 - len)) (pow_pos (32 - len)) }
+    record {
+      len = short;
+      addr = omega (arith, div-mul-le_self addr (2 ^ (32 - len)));
+      clear = cleared-cleared addr
+          (2 ^ (32 - len)) (pow_pos (32 - len));
+    }
 
 -- a prefix has at least its length, and does not pass the end
 pub prefix_size_is_size : IsSize prefix_size

@@ -35,7 +35,8 @@ octets_for bits = (bits + 7) / 8
 -- how many octets the prefix at the front has; None if its length is over 32 or octets are missing
 abbrev pub prefix_size : List ℕ → Option ℕ
 prefix_size [] = None
-prefix_size (len ∷ rest) = if nat_le len 32 && nat_le (octets_for len) (length rest) then Some (1 + octets_for len) else None
+prefix_size (len ∷ rest) =
+    if nat_le len 32 && nat_le (octets_for len) (length rest) then Some (1 + octets_for len) else None
 
 -- the prefix of a length and its octets; octets that are not there count as 0
 abbrev pub prefix_at : List ℕ → Prefix

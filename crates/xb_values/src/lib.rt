@@ -1,5 +1,5 @@
-//! Values and their texts: IPv4 prefixes, buffers of a fixed capacity, and the texts of numbers, addresses, prefixes and
-//! octets, read and written.
+//! Values and their texts: IPv4 prefixes, buffers of a fixed capacity, and the texts of numbers, addresses, prefixes
+//! and octets, read and written.
 //!
 //! A [`Prefix`] keeps its host bits clear, so that two prefixes are equal exactly if they name the same addresses. A
 //! [`Buf`] takes all its memory when it is made: `push` and the calls `push_*` append a text if it fits and otherwise
@@ -20,5 +20,6 @@ pub use prefix::Prefix;
 pub use reader::{read_decimal, read_dotted, read_prefix, split_once};
 pub use steps::{Brand, Steps};
 pub use text::{
-    append_decimal, append_hex, append_prefix, push_decimal, push_dotted, push_hex, push_prefix,
+    MAX_DECIMAL, MAX_PREFIX_TEXT, append_decimal, append_hex, append_prefix, push_decimal,
+    push_dotted, push_hex, push_prefix,
 };

@@ -45,8 +45,8 @@ fn value_of(text: &[u8]) -> Option<u64>
     Some(value)
 }
 
-/// The number of a text: decimal digits without a sign or a leading zero. None if the text is not of this form, or if the
-/// number has more than 64 bits.
+/// The number of a text: decimal digits without a sign or a leading zero. None if the text is not of this form, or if
+/// the number has more than 64 bits.
 pub fn read_decimal(text: &[u8]) -> Option<u64>
     ensures { result ≡ read_decimal text.now }
 {
@@ -68,8 +68,8 @@ fn read_up_to(limit: u8, text: &[u8]) -> Option<u8>
     }
 }
 
-/// The address of a text: four numbers up to 255, joined by dots, of which the first is the high octet of the result. None
-/// if the text is not of this form.
+/// The address of a text: four numbers up to 255, joined by dots, of which the first is the high octet of the result.
+/// None if the text is not of this form.
 pub fn read_dotted(text: &[u8]) -> Option<u32>
     ensures { result ≡ read_dotted text.now }
 {
@@ -84,8 +84,8 @@ pub fn read_dotted(text: &[u8]) -> Option<u32>
     ]))
 }
 
-/// The prefix of a text: an address, a slash and a length up to 32. Host bits are cleared. None if the text is not of this
-/// form.
+/// The prefix of a text: an address, a slash and a length up to 32. Host bits are cleared. None if the text is not of
+/// this form.
 pub fn read_prefix(text: &[u8]) -> Option<Prefix>
     ensures { result ≡ read_prefix text.now }
 {

@@ -6,8 +6,8 @@ use std::marker::{Model, PhantomData};
 #[derive(Drop)]
 pub struct Brand;
 
-/// A counter of steps, of a ledger `L`. Only [`Brand`] has a constructor, so that code which is generic in `L` can neither
-/// replace the counter that its caller lends it nor set it back: it can only count on.
+/// A counter of steps, of a ledger `L`. Only [`Brand`] has a constructor, so that code which is generic in `L` can
+/// neither replace the counter that its caller lends it nor set it back: it can only count on.
 pub struct Steps<L> {
     count: u64,
     ledger: PhantomData<L>,

@@ -7,11 +7,17 @@ ghost use Rattle.xb_values.specs.Texts.{dotted, prefix_text, hex_digit, hex_octe
 use crate::{Buf, Prefix};
 use itoa::Buffer;
 
+/// The most digits of a number of 64 bits.
+pub const MAX_DECIMAL: usize = 20;
+
+/// The most octets of a prefix's text, which is then of the form `255.255.255.255/32`.
+pub const MAX_PREFIX_TEXT: usize = 18;
+
 /// Appends a number in decimal, or nothing if it does not fit. Whether it fits is returned.
 #[tactic(auto, using(crate::proofs::TextLemmas::decimal_length))]
 pub fn push_decimal(out: &mut Buf, value: u64) -> bool
     ensures appends { Appends result out.old out.new (decimal value) }
-    ensures short { length (decimal value) ≤ 20 }
+    ensures short { length (decimal value) ≤ MAX_DECIMAL }
 {
     let mut digits = Buffer::new();
     out.push(digits.format(value).as_bytes())
@@ -20,9 +26,9 @@ pub fn push_decimal(out: &mut Buf, value: u64) -> bool
 /// Appends a number in decimal, for which there is room.
 #[tactic(auto, using(crate::proofs::TextLemmas::decimal_length))]
 pub fn append_decimal(out: &mut Buf, value: u64)
-    requires { length out.old.octets + 20 ≤ out.old.capacity }
+    requires { length out.old.octets + MAX_DECIMAL ≤ out.old.capacity }
     ensures appended { out.new ≡ record out.old { octets = out.old.octets ++ decimal value } }
-    ensures short { length (decimal value) ≤ 20 }
+    ensures short { length (decimal value) ≤ MAX_DECIMAL }
 {
     let _ = push_decimal(out, value);
 }
@@ -44,8 +50,8 @@ fn push_all(out: &mut Buf, parts: &[&[u8]]) -> bool
     true
 }
 
-/// Appends an address as four numbers joined by dots, that of its high octet first, or nothing if it does not fit. Whether
-/// it fits is returned.
+/// Appends an address as four numbers joined by dots, that of its high octet first, or nothing if it does not fit.
+/// Whether it fits is returned.
 pub fn push_dotted(out: &mut Buf, addr: u32) -> bool
     ensures { Appends result out.old out.new (dotted addr) }
 {
@@ -63,7 +69,7 @@ pub fn push_dotted(out: &mut Buf, addr: u32) -> bool
 #[tactic(auto, using(crate::proofs::TextLemmas::prefix_text_length))]
 pub fn push_prefix(out: &mut Buf, prefix: Prefix) -> bool
     ensures appends { Appends result out.old out.new (prefix_text prefix) }
-    ensures short { length (prefix_text prefix) ≤ 18 }
+    ensures short { length (prefix_text prefix) ≤ MAX_PREFIX_TEXT }
 {
     let start = out.len();
     if !push_dotted(out, prefix.addr()) {
@@ -81,9 +87,9 @@ pub fn push_prefix(out: &mut Buf, prefix: Prefix) -> bool
 /// Appends a prefix as its address, a slash and its length, for which there is room.
 #[tactic(auto, using(crate::proofs::TextLemmas::prefix_text_length))]
 pub fn append_prefix(out: &mut Buf, prefix: Prefix)
-    requires { length out.old.octets + 18 ≤ out.old.capacity }
+    requires { length out.old.octets + MAX_PREFIX_TEXT ≤ out.old.capacity }
     ensures appended { out.new ≡ record out.old { octets = out.old.octets ++ prefix_text prefix } }
-    ensures short { length (prefix_text prefix) ≤ 18 }
+    ensures short { length (prefix_text prefix) ≤ MAX_PREFIX_TEXT }
 {
     let _ = push_prefix(out, prefix);
 }
@@ -136,8 +142,8 @@ fn push_digits(out: &mut Buf, bytes: &[u8])
     push_few(out, rest);
 }
 
-/// Appends two digits for each octet, or a dash if there are no octets, or nothing if that does not fit. Whether it fits is
-/// returned.
+/// Appends two digits for each octet, or a dash if there are no octets, or nothing if that does not fit. Whether it
+/// fits is returned.
 #[tactic(auto, using(crate::proofs::TextLemmas::hex_text_some, crate::proofs::TextLemmas::hex_text_length))]
 pub fn push_hex(out: &mut Buf, bytes: &[u8]) -> bool
     ensures appends { Appends result out.old out.new (hex_text bytes.now) }

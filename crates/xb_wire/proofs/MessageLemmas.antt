@@ -7,19 +7,23 @@ use Rattle.std.specs.Int.{w16, from_be_bytes}
 use Rattle.xb_words.specs.Octets.{all_are}
 use Rattle.xb_words.specs.Cut.{IsSize, IsStable, IsLocal}
 use Rattle.xb_wire.specs.declared.numbers.TheConstants.{MARKER, HEADER, MAX_MESSAGE, KEEPALIVE, MESSAGE_HEADER_ERROR, CONNECTION_NOT_SYNCHRONIZED, BAD_MESSAGE_LENGTH, BAD_MESSAGE_TYPE}
-use Rattle.xb_wire.specs.Messages.{Notification, notification, message_size, header_fault, length_error, message_length, message_kind, is_bad_length, HasMessageLength}
+use Rattle.xb_wire.specs.Messages.{Notification, notification, message_size, header_fault, length_error, type_error, message_length, message_kind, is_bad_length, HasMessageLength}
 
 -- a header's fault by the octets that it depends on
 abbrev header_fault_by : List ℕ → ℕ → ℕ → ℕ → List ℕ → Option Notification
 header_fault_by marker a b kind written =
     let n = from_be_bytes w16 (a ∷ b ∷ []) in
     if not (all_are 255 marker) then Some (notification MESSAGE_HEADER_ERROR CONNECTION_NOT_SYNCHRONIZED [])
-    else if nat_lt n HEADER || nat_lt MAX_MESSAGE n then Some (notification MESSAGE_HEADER_ERROR BAD_MESSAGE_LENGTH written)
-    else if kind == 0 || nat_lt KEEPALIVE kind then Some (notification MESSAGE_HEADER_ERROR BAD_MESSAGE_TYPE (kind ∷ []))
+    else if nat_lt n HEADER || nat_lt MAX_MESSAGE n then Some
+    (notification MESSAGE_HEADER_ERROR BAD_MESSAGE_LENGTH written)
+    else if kind == 0 || nat_lt KEEPALIVE kind then Some
+    (notification MESSAGE_HEADER_ERROR BAD_MESSAGE_TYPE (kind ∷ []))
     else if is_bad_length kind n then Some (notification MESSAGE_HEADER_ERROR BAD_MESSAGE_LENGTH written)
     else None
 
-by_parts : (s : List ℕ) → header_fault s ≡ header_fault_by (take 16 s) (slice_index s 16) (slice_index s 17) (slice_index s 18) (slice_range s 16 18)
+by_parts : (s : List ℕ)
+    → header_fault s ≡ header_fault_by (take 16 s) (slice_index s 16) (slice_index s 17) (slice_index s 18)
+    (slice_range s 16 18)
 by_parts s = refl
 
 -- what follows a header makes no difference to its fault
@@ -31,7 +35,8 @@ header_fault-append s t h =
     let b : slice_index r 17 ≡ slice_index s 17 = get_or_append_left s t 0 17 (omega (arith, h)) in
     let k : slice_index r 18 ≡ slice_index s 18 = get_or_append_left s t 0 18 (omega (arith, h)) in
     let d : slice_range r 16 18 ≡ slice_range s 16 18 =
-    ap (take 2) (drop-append-le 16 s t (omega (arith, h))) ∙ take-append-le 2 (drop 16 s) t (omega (arith, h, length-drop 16 s)) in
+    ap (take 2) (drop-append-le 16 s t (omega (arith, h))) ∙ take-append-le 2 (drop 16 s) t
+    (omega (arith, h, length-drop 16 s)) in
     by_parts r
     ∙ ap (λ x. header_fault_by x (slice_index r 16) (slice_index r 17) (slice_index r 18) (slice_range r 16 18)) m
     ∙ ap (λ x. header_fault_by (take 16 s) x (slice_index r 17) (slice_index r 18) (slice_range r 16 18)) a
@@ -47,14 +52,17 @@ message_length-append s t h =
     ∙ ap (λ x. from_be_bytes w16 (slice_index s 16 ∷ x ∷ [])) (get_or_append_left s t 0 17 (omega (arith, h)))
 
 -- a size is Some only if the three tests pass
-pub tests_passed : (b : Bool) (o : Option Notification) (c : Bool) (m n : ℕ) → cond b None (elim o [ Some f ↦ None | None ↦ cond c None (Some m) ]) ≡ Some n → (b ≡ false) × (o ≡ None) × (c ≡ false) × (m ≡ n)
+pub tests_passed : (b : Bool) (o : Option Notification) (c : Bool) (m n : ℕ)
+    → cond b None (elim o [ Some f ↦ None | None ↦ cond c None (Some m) ]) ≡ Some n
+    → (b ≡ false) × (o ≡ None) × (c ≡ false) × (m ≡ n)
 tests_passed true o c m n e = cc
 tests_passed false (Some f) c m n e = cc
 tests_passed false None true m n e = cc
 tests_passed false None false m n e = (refl, refl, refl, ap (λ x. unwrap_or x 0) e)
 
 -- and if they pass
-pub size_if_passed : (b : Bool) (o : Option Notification) (c : Bool) (m n : ℕ) → b ≡ false → o ≡ None → c ≡ false → m ≡ n → cond b None (elim o [ Some f ↦ None | None ↦ cond c None (Some m) ]) ≡ Some n
+pub size_if_passed : (b : Bool) (o : Option Notification) (c : Bool) (m n : ℕ) → b ≡ false → o ≡ None → c ≡ false
+    → m ≡ n → cond b None (elim o [ Some f ↦ None | None ↦ cond c None (Some m) ]) ≡ Some n
 size_if_passed true o c m n b e d k = cc
 size_if_passed false (Some f) c m n b e d k = cc
 size_if_passed false None true m n b e d k = cc
@@ -69,7 +77,8 @@ pub record Passes (s : List ℕ) : Type 0 where
   pub length : is_bad_length (message_kind s) (message_length s) ≡ false
 
 four_tests : (a b c d : Bool) (x y z w : Notification)
-    → cond a (Some x) (cond b (Some y) (cond c (Some z) (cond d (Some w) None))) ≡ None → (b ≡ false) × (c ≡ false) × (d ≡ false)
+    → cond a (Some x) (cond b (Some y) (cond c (Some z) (cond d (Some w) None))) ≡ None
+    → (b ≡ false) × (c ≡ false) × (d ≡ false)
 four_tests true b c d x y z w e = cc
 four_tests false true c d x y z w e = cc
 four_tests false false true d x y z w e = cc
@@ -80,9 +89,10 @@ header_fault-none : (s : List ℕ) → header_fault s ≡ None → Passes s
 header_fault-none s e =
     let n = message_length s in
     let k = message_kind s in
-    let t = four_tests (not (all_are 255 (take MARKER s))) (nat_lt n HEADER || nat_lt MAX_MESSAGE n) (k == 0 || nat_lt KEEPALIVE k) (is_bad_length k n)
+    let t = four_tests (not (all_are 255 (take MARKER s))) (nat_lt n HEADER || nat_lt MAX_MESSAGE n)
+    (k == 0 || nat_lt KEEPALIVE k) (is_bad_length k n)
     (notification MESSAGE_HEADER_ERROR CONNECTION_NOT_SYNCHRONIZED []) (length_error s)
-    (notification MESSAGE_HEADER_ERROR BAD_MESSAGE_TYPE (k ∷ [])) (length_error s) e in
+    (type_error s) (length_error s) e in
     let lengths = or_parts (nat_lt n HEADER) (nat_lt MAX_MESSAGE n) t.0 in
     let kinds = or_parts (k == 0) (nat_lt KEEPALIVE k) t.1 in
     record { short = lengths.0; long = lengths.1; no_kind = kinds.0; other_kind = kinds.1; length = t.2 }
@@ -137,13 +147,15 @@ HasMessageLength-header s e =
 -- so do the length and the type of a whole message at the front
 pub HasMessageLength-size : (s : List ℕ) (n : ℕ) → message_size s ≡ Some n → HasMessageLength (message_kind s) n
 HasMessageLength-size s n e =
-    let p = tests_passed (nat_lt (length s) 19) (header_fault s) (nat_lt (length s) (message_length s)) (message_length s) n e in
+    let p = tests_passed (nat_lt (length s) 19) (header_fault s) (nat_lt (length s) (message_length s))
+    (message_length s) n e in
     rw (← p.3) (HasMessageLength-header s p.1)
 
 -- a message has at least its header, and does not pass the end
 pub message_size_is_size : IsSize message_size
 message_size_is_size s n e =
-    let p = tests_passed (nat_lt (length s) 19) (header_fault s) (nat_lt (length s) (message_length s)) (message_length s) n e in
+    let p = tests_passed (nat_lt (length s) 19) (header_fault s) (nat_lt (length s) (message_length s))
+    (message_length s) n e in
     let a = (HasMessageLength-header s p.1).header in
     let b : message_length s ≤ length s = ltb-false (length s) (message_length s) p.2 in
     (omega (arith, a, p.3), omega (arith, b, p.3))
@@ -151,24 +163,32 @@ message_size_is_size s n e =
 -- a whole message at the front stays one, whatever follows
 pub message_size_is_stable : IsStable message_size
 message_size_is_stable s t n e =
-    let p = tests_passed (nat_lt (length s) 19) (header_fault s) (nat_lt (length s) (message_length s)) (message_length s) n e in
+    let p = tests_passed (nat_lt (length s) 19) (header_fault s) (nat_lt (length s) (message_length s))
+    (message_length s) n e in
     let a : 19 ≤ length s = ltb-false (length s) 19 p.0 in
     let b : message_length s ≤ length s = ltb-false (length s) (message_length s) p.2 in
     let l = length-append s t in
     let w = message_length-append s t a in
-    size_if_passed (nat_lt (length (s ++ t)) 19) (header_fault (s ++ t)) (nat_lt (length (s ++ t)) (message_length (s ++ t))) (message_length (s ++ t)) n
-    (le-ltb (length (s ++ t)) 19 (omega (arith, a, l))) (header_fault-append s t a ∙ p.1) (le-ltb (length (s ++ t)) (message_length (s ++ t)) (omega (arith, b, l, w))) (w ∙ p.3)
+    size_if_passed (nat_lt (length (s ++ t)) 19) (header_fault (s ++ t))
+    (nat_lt (length (s ++ t)) (message_length (s ++ t))) (message_length (s ++ t)) n
+    (le-ltb (length (s ++ t)) 19 (omega (arith, a, l))) (header_fault-append s t a ∙ p.1)
+    (le-ltb (length (s ++ t)) (message_length (s ++ t)) (omega (arith, b, l, w))) (w ∙ p.3)
 
 -- the octets of a message at the front are a message by themselves
 pub message_size_is_local : IsLocal message_size
 message_size_is_local s n e =
-    let p = tests_passed (nat_lt (length s) 19) (header_fault s) (nat_lt (length s) (message_length s)) (message_length s) n e in
+    let p = tests_passed (nat_lt (length s) 19) (header_fault s) (nat_lt (length s) (message_length s))
+    (message_length s) n e in
     let a = (HasMessageLength-header s p.1).header in
     let b : message_length s ≤ length s = ltb-false (length s) (message_length s) p.2 in
     let size : length (take n s) ≡ n = length-take-le n s (omega (arith, b, p.3)) in
     let long : 19 ≤ length (take n s) = omega (arith, a, p.3, size) in
     let joined = take-append-drop n s in
-    let good : header_fault (take n s) ≡ None = sym (header_fault-append (take n s) (drop n s) long) ∙ ap header_fault joined ∙ p.1 in
-    let field : message_length (take n s) ≡ message_length s = sym (message_length-append (take n s) (drop n s) long) ∙ ap message_length joined in
-    size_if_passed (nat_lt (length (take n s)) 19) (header_fault (take n s)) (nat_lt (length (take n s)) (message_length (take n s))) (message_length (take n s)) n
-    (le-ltb (length (take n s)) 19 long) good (le-ltb (length (take n s)) (message_length (take n s)) (omega (arith, field, p.3, size))) (field ∙ p.3)
+    let good : header_fault (take n s) ≡ None = sym (header_fault-append (take n s) (drop n s) long)
+    ∙ ap header_fault joined ∙ p.1 in
+    let field : message_length (take n s) ≡ message_length s = sym (message_length-append (take n s) (drop n s) long)
+    ∙ ap message_length joined in
+    size_if_passed (nat_lt (length (take n s)) 19) (header_fault (take n s))
+    (nat_lt (length (take n s)) (message_length (take n s))) (message_length (take n s)) n
+    (le-ltb (length (take n s)) 19 long) good (le-ltb (length (take n s)) (message_length (take n s))
+    (omega (arith, field, p.3, size))) (field ∙ p.3)

@@ -37,12 +37,17 @@ is_bad_length kind n =
 abbrev pub length_error : List ℕ → Notification
 length_error s = notification MESSAGE_HEADER_ERROR BAD_MESSAGE_LENGTH (slice_range s MARKER (MARKER + 2))
 
+-- a message header error about the type, which is its data
+abbrev pub type_error : List ℕ → Notification
+type_error s = notification MESSAGE_HEADER_ERROR BAD_MESSAGE_TYPE (message_kind s ∷ [])
+
 -- the first check that a header of 19 octets fails (RFC 4271, section 6.1)
 abbrev pub header_fault : List ℕ → Option Notification
 header_fault s =
-    if not (all_are 255 (take MARKER s)) then Some (notification MESSAGE_HEADER_ERROR CONNECTION_NOT_SYNCHRONIZED [])
+    if not (all_are 255 (take MARKER s))
+    then Some (notification MESSAGE_HEADER_ERROR CONNECTION_NOT_SYNCHRONIZED [])
     else if nat_lt (message_length s) HEADER || nat_lt MAX_MESSAGE (message_length s) then Some (length_error s)
-    else if message_kind s == 0 || nat_lt KEEPALIVE (message_kind s) then Some (notification MESSAGE_HEADER_ERROR BAD_MESSAGE_TYPE (message_kind s ∷ []))
+    else if message_kind s == 0 || nat_lt KEEPALIVE (message_kind s) then Some (type_error s)
     else if is_bad_length (message_kind s) (message_length s) then Some (length_error s)
     else None
 

@@ -39,8 +39,8 @@ fn has_bad_length(kind: u8, len: u16) -> bool
     }
 }
 
-/// The first check that the header at the front fails: the marker, the length field's range, the type, the length for the
-/// type (RFC 4271, section 6.1). Octets after the header do not matter.
+/// The first check that the header at the front fails: the marker, the length field's range, the type, the length for
+/// the type (RFC 4271, section 6.1). Octets after the header do not matter.
 pub fn fault_in_header(octets: &[u8]) -> Option<HeaderFault>
     requires { HEADER ≤ length octets.now }
     ensures { option_map notification_of result ≡ header_fault octets.now }

@@ -8,7 +8,8 @@ pub fn one_split()
     ensures joins { (s : List ℕ) → concat (split s).items ++ (split s).rest ≡ s }
     ensures whole { (s : List ℕ) → AllByRecursion IsMessage (split s).items }
     ensures ends { (s : List ℕ) → message_size (split s).rest ≡ None }
-    ensures only { (messages : List (List ℕ)) (rest : List ℕ) → AllByRecursion IsMessage messages → message_size rest ≡ None
+    ensures only { (messages : List (List ℕ)) (rest : List ℕ) → AllByRecursion IsMessage messages
+        → message_size rest ≡ None
         → split (concat messages ++ rest) ≡ record { items = messages; rest = rest } }
 {}
 

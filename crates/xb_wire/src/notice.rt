@@ -1,5 +1,5 @@
-/// What a NOTIFICATION says: a code, a subcode and data, of which a message has room for `numbers::MAX_NOTICE_DATA` octets
-/// (RFC 4271, section 4.5).
+/// What a NOTIFICATION says: a code, a subcode and data, of which a message has room for `numbers::MAX_NOTICE_DATA`
+/// octets (RFC 4271, section 4.5).
 #[derive(Clone, Copy, Debug, PartialEq, Eq)]
 pub struct Notice<'a> {
     pub code: u8,

@@ -1,5 +1,5 @@
--- A list of entries by rising key that is split at one entry, as a search tree splits it: what a look-up, a write, a removal
--- and a walk do in it is what they do on one side of the split.
+-- A list of entries by rising key that is split at one entry, as a search tree splits it: what a look-up, a write, a
+-- removal and a walk do in it is what they do on one side of the split.
 use Rattle.std.proofs.Common.{◌≡◌, Bool, true, false, cond, List, [], ◌∷◌, ◌++◌, Option, Some, None, refl, ◌∙◌, ap}
 use Rattle.std.specs.Cmp.{IsTotalOrder}
 use Rattle.std.specs.List.{AllByRecursion}
@@ -64,7 +64,9 @@ module _ {K X : Type 0} (c : K → K → Ordering) (o : IsTotalOrder c) where
   pub IsRising-left : (ls es : List (K × X)) → IsRising c (ls ++ es) → IsRising c ls
   unfolding IsStrictlySortedBy
   IsRising-left [] es rising = tt
-  IsRising-left (l ∷ ls) es rising = IsRising-cons l ls (each_left Less l.0 ls es (IsRising-head l (ls ++ es) rising)) (IsRising-left ls es (IsRising-tail l (ls ++ es) rising))
+  IsRising-left (l ∷ ls) es rising =
+      IsRising-cons l ls (each_left Less l.0 ls es (IsRising-head l (ls ++ es) rising))
+      (IsRising-left ls es (IsRising-tail l (ls ++ es) rising))
 
   rising_rest : (ls es : List (K × X)) → IsRising c (ls ++ es) → IsRising c es
   rising_rest [] es rising = rising
@@ -85,19 +87,28 @@ module _ {K X : Type 0} (c : K → K → Ordering) (o : IsTotalOrder c) where
   Each-congr q e (r ∷ rs) same a = (o.congr q e.0 r.0 same ∙ a.0, Each-congr q e rs same a.1)
 
   -- a key that is not below an entry is above all before it
-  past_greater : (q : K) (ls : List (K × X)) (e : K × X) (rs : List (K × X)) → c q e.0 ≡ Greater → IsRising c (ls ++ e ∷ rs) → Each Greater q ls
+  past_greater : (q : K) (ls : List (K × X)) (e : K × X) (rs : List (K × X)) → c q e.0 ≡ Greater
+      → IsRising c (ls ++ e ∷ rs) → Each Greater q ls
   past_greater q [] e rs more rising = tt
   past_greater q (l ∷ ls) e rs more rising =
-      let before = each_right Less l.0 ls (e ∷ rs) (IsRising-head l (ls ++ e ∷ rs) rising) in
-      (greater_from_less c o q l.0 (o.trans l.0 e.0 q before.0 (less_from_greater c o e.0 q more)), past_greater q ls e rs more (IsRising-tail l (ls ++ e ∷ rs) rising))
+      let before = each_right Less l.0 ls (e ∷ rs) (IsRising-head l (ls ++ e ∷ rs) rising) in (
+        greater_from_less c o q l.0 (o.trans l.0 e.0 q before.0 (less_from_greater c o e.0 q more)),
+        past_greater q ls e
+            rs more (IsRising-tail l (ls ++ e ∷ rs) rising),
+      )
 
-  past_equal : (q : K) (ls : List (K × X)) (e : K × X) (rs : List (K × X)) → c q e.0 ≡ Equal → IsRising c (ls ++ e ∷ rs) → Each Greater q ls
+  past_equal : (q : K) (ls : List (K × X)) (e : K × X) (rs : List (K × X)) → c q e.0 ≡ Equal → IsRising c (ls ++ e ∷ rs)
+      → Each Greater q ls
   past_equal q [] e rs same rising = tt
   past_equal q (l ∷ ls) e rs same rising =
-      let before = each_right Less l.0 ls (e ∷ rs) (IsRising-head l (ls ++ e ∷ rs) rising) in
-      (greater_from_less c o q l.0 (alike_right o q e.0 l.0 same ∙ before.0), past_equal q ls e rs same (IsRising-tail l (ls ++ e ∷ rs) rising))
+      let before = each_right Less l.0 ls (e ∷ rs) (IsRising-head l (ls ++ e ∷ rs) rising) in (
+        greater_from_less c o q l.0 (alike_right o q e.0 l.0 same ∙ before.0),
+        past_equal q ls e rs same
+            (IsRising-tail l (ls ++ e ∷ rs) rising),
+      )
 
-  before_less : (q : K) (ls : List (K × X)) (e : K × X) (rs : List (K × X)) → c q e.0 ≡ Less → IsRising c (ls ++ e ∷ rs) → Each Less q rs
+  before_less : (q : K) (ls : List (K × X)) (e : K × X) (rs : List (K × X)) → c q e.0 ≡ Less → IsRising c (ls ++ e ∷ rs)
+      → Each Less q rs
   before_less q ls e rs less rising = Each-trans q e rs less (IsRising-head e rs (rising_rest ls (e ∷ rs) rising))
 
   -- past entries that are all below the key
@@ -105,7 +116,8 @@ module _ {K X : Type 0} (c : K → K → Ordering) (o : IsTotalOrder c) where
   value_past q [] es a = refl
   value_past q (l ∷ ls) es a = rw a.0 (value_past q ls es a.1)
 
-  with_past : (q : K) (v : X) (ls es : List (K × X)) → Each Greater q ls → with_value c (ls ++ es) q v ≡ ls ++ with_value c es q v
+  with_past : (q : K) (v : X) (ls es : List (K × X)) → Each Greater q ls
+      → with_value c (ls ++ es) q v ≡ ls ++ with_value c es q v
   with_past q v [] es a = refl
   with_past q v (l ∷ ls) es a = rw a.0 (ap (λ (t : List (K × X)). l ∷ t) (with_past q v ls es a.1))
 
@@ -113,7 +125,8 @@ module _ {K X : Type 0} (c : K → K → Ordering) (o : IsTotalOrder c) where
   without_past q [] es a = refl
   without_past q (l ∷ ls) es a = rw a.0 (ap (λ (t : List (K × X)). l ∷ t) (without_past q ls es a.1))
 
-  after_past : (q : K) (ls es : List (K × X)) → Each Greater q ls → entry_after c (ls ++ es) (Some q) ≡ entry_after c es (Some q)
+  after_past : (q : K) (ls es : List (K × X)) → Each Greater q ls
+      → entry_after c (ls ++ es) (Some q) ≡ entry_after c es (Some q)
   after_past q [] es a = refl
   after_past q (l ∷ ls) es a = rw a.0 (after_past q ls es a.1)
 
@@ -131,11 +144,14 @@ module _ {K X : Type 0} (c : K → K → Ordering) (o : IsTotalOrder c) where
   value_up_to q [] es a = value_at-above q es a
   value_up_to q (l ∷ ls) es a = ap (λ (t : Option X). cond (is_eq (c q l.0)) (Some l.1) t) (value_up_to q ls es a)
 
-  with_up_to : (q : K) (v : X) (ls : List (K × X)) (e : K × X) (rs : List (K × X)) → c q e.0 ≡ Less → with_value c (ls ++ e ∷ rs) q v ≡ with_value c ls q v ++ e ∷ rs
+  with_up_to : (q : K) (v : X) (ls : List (K × X)) (e : K × X) (rs : List (K × X)) → c q e.0 ≡ Less
+      → with_value c (ls ++ e ∷ rs) q v ≡ with_value c ls q v ++ e ∷ rs
   with_up_to q v [] e rs less = rw less refl
   with_up_to q v (l ∷ ls) e rs less = by (c q l.0) (with_up_to q v ls e rs less)
     where
-      by : (r : Ordering) → with_value c (ls ++ e ∷ rs) q v ≡ with_value c ls q v ++ e ∷ rs → match_ordering r ((q, v) ∷ l ∷ (ls ++ e ∷ rs)) ((l.0, v) ∷ (ls ++ e ∷ rs)) (l ∷ with_value c (ls ++ e ∷ rs) q v)
+      by : (r : Ordering) → with_value c (ls ++ e ∷ rs) q v ≡ with_value c ls q v ++ e ∷ rs
+          → match_ordering r ((q, v) ∷ l ∷ (ls ++ e ∷ rs)) ((l.0, v) ∷ (ls ++ e ∷ rs))
+          (l ∷ with_value c (ls ++ e ∷ rs) q v)
           ≡ match_ordering r ((q, v) ∷ l ∷ ls) ((l.0, v) ∷ ls) (l ∷ with_value c ls q v) ++ e ∷ rs
       by Less h = refl
       by Equal h = refl
@@ -145,62 +161,80 @@ module _ {K X : Type 0} (c : K → K → Ordering) (o : IsTotalOrder c) where
   without_up_to q [] es a = without_above q es a
   without_up_to q (l ∷ ls) es a = by (is_eq (c q l.0)) (without_up_to q ls es a)
     where
-      by : (b : Bool) → without c (ls ++ es) q ≡ without c ls q ++ es → cond b (ls ++ es) (l ∷ without c (ls ++ es) q) ≡ cond b ls (l ∷ without c ls q) ++ es
+      by : (b : Bool) → without c (ls ++ es) q ≡ without c ls q ++ es
+          → cond b (ls ++ es) (l ∷ without c (ls ++ es) q) ≡ cond b ls (l ∷ without c ls q) ++ es
       by true h = refl
       by false h = ap (λ (t : List (K × X)). l ∷ t) h
 
-  after_up_to : (q : K) (ls : List (K × X)) (e : K × X) (rs : List (K × X)) → c q e.0 ≡ Less → entry_after c (ls ++ e ∷ rs) (Some q) ≡ or_entry (entry_after c ls (Some q)) e
+  after_up_to : (q : K) (ls : List (K × X)) (e : K × X) (rs : List (K × X)) → c q e.0 ≡ Less
+      → entry_after c (ls ++ e ∷ rs) (Some q) ≡ or_entry (entry_after c ls (Some q)) e
   after_up_to q [] e rs less = rw less refl
   after_up_to q (l ∷ ls) e rs less = by (is_lt (c q l.0)) (after_up_to q ls e rs less)
     where
-      by : (b : Bool) → entry_after c (ls ++ e ∷ rs) (Some q) ≡ or_entry (entry_after c ls (Some q)) e → first_of (cond b (l ∷ entries_after c (ls ++ e ∷ rs) (Some q)) (entries_after c (ls ++ e ∷ rs) (Some q))) ≡ or_entry (first_of (cond b (l ∷ entries_after c ls (Some q)) (entries_after c ls (Some q)))) e
+      by : (b : Bool) → entry_after c (ls ++ e ∷ rs) (Some q) ≡ or_entry (entry_after c ls (Some q)) e
+          → first_of (cond b (l ∷ entries_after c (ls ++ e ∷ rs) (Some q)) (entries_after c (ls ++ e ∷ rs) (Some q)))
+          ≡ or_entry (first_of (cond b (l ∷ entries_after c ls (Some q)) (entries_after c ls (Some q)))) e
       by true h = refl
       by false h = h
 
   -- a look-up at a key below the entry of the split is one among the entries before it
-  pub value_at-less : (q : K) (ls : List (K × X)) (e : K × X) (rs : List (K × X)) → c q e.0 ≡ Less → IsRising c (ls ++ e ∷ rs) → value_at c (ls ++ e ∷ rs) q ≡ value_at c ls q
+  pub value_at-less : (q : K) (ls : List (K × X)) (e : K × X) (rs : List (K × X)) → c q e.0 ≡ Less
+      → IsRising c (ls ++ e ∷ rs) → value_at c (ls ++ e ∷ rs) q ≡ value_at c ls q
   value_at-less q ls e rs less rising = value_up_to q ls (e ∷ rs) (less, before_less q ls e rs less rising)
 
   -- a look-up at the key of the entry of the split concerns that entry alone
-  pub value_at-equal : (q : K) (ls : List (K × X)) (e : K × X) (rs : List (K × X)) → c q e.0 ≡ Equal → IsRising c (ls ++ e ∷ rs) → value_at c (ls ++ e ∷ rs) q ≡ Some e.1
+  pub value_at-equal : (q : K) (ls : List (K × X)) (e : K × X) (rs : List (K × X)) → c q e.0 ≡ Equal
+      → IsRising c (ls ++ e ∷ rs) → value_at c (ls ++ e ∷ rs) q ≡ Some e.1
   value_at-equal q ls e rs same rising = value_past q ls (e ∷ rs) (past_equal q ls e rs same rising) ∙ rw same refl
 
   -- a look-up at a key above the entry of the split is one among the entries after it
-  pub value_at-greater : (q : K) (ls : List (K × X)) (e : K × X) (rs : List (K × X)) → c q e.0 ≡ Greater → IsRising c (ls ++ e ∷ rs) → value_at c (ls ++ e ∷ rs) q ≡ value_at c rs q
+  pub value_at-greater : (q : K) (ls : List (K × X)) (e : K × X) (rs : List (K × X)) → c q e.0 ≡ Greater
+      → IsRising c (ls ++ e ∷ rs) → value_at c (ls ++ e ∷ rs) q ≡ value_at c rs q
   value_at-greater q ls e rs more rising = value_past q ls (e ∷ rs) (past_greater q ls e rs more rising) ∙ rw more refl
 
   -- a write at a key below the entry of the split is one among the entries before it
-  pub with_value-less : (q : K) (v : X) (ls : List (K × X)) (e : K × X) (rs : List (K × X)) → c q e.0 ≡ Less → with_value c (ls ++ e ∷ rs) q v ≡ with_value c ls q v ++ e ∷ rs
+  pub with_value-less : (q : K) (v : X) (ls : List (K × X)) (e : K × X) (rs : List (K × X)) → c q e.0 ≡ Less
+      → with_value c (ls ++ e ∷ rs) q v ≡ with_value c ls q v ++ e ∷ rs
   with_value-less q v ls e rs less = with_up_to q v ls e rs less
 
   -- a write at the key of the entry of the split concerns that entry alone
-  pub with_value-equal : (q : K) (v : X) (ls : List (K × X)) (e : K × X) (rs : List (K × X)) → c q e.0 ≡ Equal → IsRising c (ls ++ e ∷ rs) → with_value c (ls ++ e ∷ rs) q v ≡ ls ++ (e.0, v) ∷ rs
+  pub with_value-equal : (q : K) (v : X) (ls : List (K × X)) (e : K × X) (rs : List (K × X)) → c q e.0 ≡ Equal
+      → IsRising c (ls ++ e ∷ rs) → with_value c (ls ++ e ∷ rs) q v ≡ ls ++ (e.0, v) ∷ rs
   with_value-equal q v ls e rs same rising = with_past q v ls (e ∷ rs) (past_equal q ls e rs same rising) ∙ rw same refl
 
   -- a write at a key above the entry of the split is one among the entries after it
-  pub with_value-greater : (q : K) (v : X) (ls : List (K × X)) (e : K × X) (rs : List (K × X)) → c q e.0 ≡ Greater → IsRising c (ls ++ e ∷ rs) → with_value c (ls ++ e ∷ rs) q v ≡ ls ++ e ∷ with_value c rs q v
-  with_value-greater q v ls e rs more rising = with_past q v ls (e ∷ rs) (past_greater q ls e rs more rising) ∙ rw more refl
+  pub with_value-greater : (q : K) (v : X) (ls : List (K × X)) (e : K × X) (rs : List (K × X)) → c q e.0 ≡ Greater
+      → IsRising c (ls ++ e ∷ rs) → with_value c (ls ++ e ∷ rs) q v ≡ ls ++ e ∷ with_value c rs q v
+  with_value-greater q v ls e rs more rising =
+      with_past q v ls (e ∷ rs) (past_greater q ls e rs more rising) ∙ rw more refl
 
   -- a removal at a key below the entry of the split is one among the entries before it
-  pub without-less : (q : K) (ls : List (K × X)) (e : K × X) (rs : List (K × X)) → c q e.0 ≡ Less → IsRising c (ls ++ e ∷ rs) → without c (ls ++ e ∷ rs) q ≡ without c ls q ++ e ∷ rs
+  pub without-less : (q : K) (ls : List (K × X)) (e : K × X) (rs : List (K × X)) → c q e.0 ≡ Less
+      → IsRising c (ls ++ e ∷ rs) → without c (ls ++ e ∷ rs) q ≡ without c ls q ++ e ∷ rs
   without-less q ls e rs less rising = without_up_to q ls (e ∷ rs) (less, before_less q ls e rs less rising)
 
   -- a removal at the key of the entry of the split concerns that entry alone
-  pub without-equal : (q : K) (ls : List (K × X)) (e : K × X) (rs : List (K × X)) → c q e.0 ≡ Equal → IsRising c (ls ++ e ∷ rs) → without c (ls ++ e ∷ rs) q ≡ ls ++ rs
+  pub without-equal : (q : K) (ls : List (K × X)) (e : K × X) (rs : List (K × X)) → c q e.0 ≡ Equal
+      → IsRising c (ls ++ e ∷ rs) → without c (ls ++ e ∷ rs) q ≡ ls ++ rs
   without-equal q ls e rs same rising = without_past q ls (e ∷ rs) (past_equal q ls e rs same rising) ∙ rw same refl
 
   -- a removal at a key above the entry of the split is one among the entries after it
-  pub without-greater : (q : K) (ls : List (K × X)) (e : K × X) (rs : List (K × X)) → c q e.0 ≡ Greater → IsRising c (ls ++ e ∷ rs) → without c (ls ++ e ∷ rs) q ≡ ls ++ e ∷ without c rs q
+  pub without-greater : (q : K) (ls : List (K × X)) (e : K × X) (rs : List (K × X)) → c q e.0 ≡ Greater
+      → IsRising c (ls ++ e ∷ rs) → without c (ls ++ e ∷ rs) q ≡ ls ++ e ∷ without c rs q
   without-greater q ls e rs more rising = without_past q ls (e ∷ rs) (past_greater q ls e rs more rising) ∙ rw more refl
 
   -- the entry after a key below the entry of the split is one before it, or that entry itself
-  pub entry_after-less : (q : K) (ls : List (K × X)) (e : K × X) (rs : List (K × X)) → c q e.0 ≡ Less → entry_after c (ls ++ e ∷ rs) (Some q) ≡ or_entry (entry_after c ls (Some q)) e
+  pub entry_after-less : (q : K) (ls : List (K × X)) (e : K × X) (rs : List (K × X)) → c q e.0 ≡ Less
+      → entry_after c (ls ++ e ∷ rs) (Some q) ≡ or_entry (entry_after c ls (Some q)) e
   entry_after-less q ls e rs less = after_up_to q ls e rs less
 
   -- the entry after the key of the entry of the split is the first after it
-  pub entry_after-equal : (q : K) (ls : List (K × X)) (e : K × X) (rs : List (K × X)) → c q e.0 ≡ Equal → IsRising c (ls ++ e ∷ rs) → entry_after c (ls ++ e ∷ rs) (Some q) ≡ entry_after c rs (Some q)
+  pub entry_after-equal : (q : K) (ls : List (K × X)) (e : K × X) (rs : List (K × X)) → c q e.0 ≡ Equal
+      → IsRising c (ls ++ e ∷ rs) → entry_after c (ls ++ e ∷ rs) (Some q) ≡ entry_after c rs (Some q)
   entry_after-equal q ls e rs same rising = after_past q ls (e ∷ rs) (past_equal q ls e rs same rising) ∙ rw same refl
 
   -- the entry after a key above the entry of the split is one after it
-  pub entry_after-greater : (q : K) (ls : List (K × X)) (e : K × X) (rs : List (K × X)) → c q e.0 ≡ Greater → IsRising c (ls ++ e ∷ rs) → entry_after c (ls ++ e ∷ rs) (Some q) ≡ entry_after c rs (Some q)
-  entry_after-greater q ls e rs more rising = after_past q ls (e ∷ rs) (past_greater q ls e rs more rising) ∙ rw more refl
+  pub entry_after-greater : (q : K) (ls : List (K × X)) (e : K × X) (rs : List (K × X)) → c q e.0 ≡ Greater
+      → IsRising c (ls ++ e ∷ rs) → entry_after c (ls ++ e ∷ rs) (Some q) ≡ entry_after c rs (Some q)
+  entry_after-greater q ls e rs more rising =
+      after_past q ls (e ∷ rs) (past_greater q ls e rs more rising) ∙ rw more refl

@@ -1,5 +1,6 @@
--- Items that follow one another: messages of a stream, prefixes, attributes, segments, parameters, lines (this project's own).
--- A `size` says of a list how many octets the item at its front has; it is None if there is no whole item at the front.
+-- Items that follow one another: messages of a stream, prefixes, attributes, segments, parameters, lines (this
+-- project's own). A `size` says of a list how many octets the item at its front has; it is None if there is no whole
+-- item at the front.
 use Rattle.std.specs.Prelude.{◌≡◌, ℕ, zero, suc, ◌+◌, ◌<◌, ◌≤◌, List, [], ◌∷◌, ◌++◌, length, take, drop, Option, Some, None, Result, Ok, Err}
 
 -- the items, each with all its octets, and what is left after the last of them
@@ -49,8 +50,8 @@ IsLocal size = (s : List ℕ) (n : ℕ) → size s ≡ Some n → size (take n s
 abbrev pub IsItem : (List ℕ → Option ℕ) → List ℕ → Type 0
 IsItem size x = size x ≡ Some (length x)
 
--- What a walk over items gives, in order: each item by its offset and its octets, and an error at the offset of the octets
--- that are left, if there are any.
+-- What a walk over items gives, in order: each item by its offset and its octets, and an error at the offset of the
+-- octets that are left, if there are any.
 abbrev pub walk : {A E : Type 0} → (ℕ → List ℕ → A) → (ℕ → E) → ℕ → List (List ℕ) → List ℕ → List (Result A E)
 walk f e at [] [] = []
 walk f e at [] (b ∷ rest) = Err (e at) ∷ []

@@ -5,8 +5,8 @@
 //! parameters and lines are all cut by the one definition `cut`, so its laws are proved once. A finite map is the list
 //! of its entries by rising key.
 //!
-//! The crate uses no other. It has few functions: its substance is the definitions in `specs/` and their lemmas. What the
-//! items of a message mean is not here but in xb_values and the crates of the protocol.
+//! The crate uses no other. It has few functions: its substance is the definitions in `specs/` and their lemmas. What
+//! the items of a message mean is not here but in xb_values and the crates of the protocol.
 #![tactic(auto)]
 
 ghost use Rattle.std.specs.Prelude.{◌≡◌, ◌+◌, ◌≤◌, ◌++◌, length, take, drop, replicate, IfOk};

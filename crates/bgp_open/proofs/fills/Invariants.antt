@@ -2,8 +2,8 @@ use Rattle.std.proofs.Common.{◌≡◌, length}
 use Rattle.bgp_open.specs.Opens.{fills}
 use Rattle.bgp_open.proofs.fills.Given as goal
 
-abbrev pub invariant-loop-behind : goal.invariant-loop-behind
-invariant-loop-behind l = fills l.rest ≡ fills l.octets
+abbrev pub invariant-fields : goal.invariant-fields
+invariant-fields l = fills l.rest ≡ fills l.octets
 
-abbrev pub decreases-loop-behind : goal.decreases-loop-behind
-decreases-loop-behind l = length l.rest
+abbrev pub decreases-fields : goal.decreases-fields
+decreases-fields l = length l.rest

@@ -1,4 +1,4 @@
-// What accepted configurations hold.
+//! What accepted configurations have.
 use std::test::Fail;
 use xb_domain::Side;
 use xb_values::Prefix;

@@ -1,82 +1,86 @@
-// So many entries as a list may have, and one more.
-use super::{SPEAKER, fault, fault_in};
+//! Lists with as many entries as they may have, and with one more.
+use super::{SPEAKER, judged};
 use std::alloc::{AllocError, Global};
 use std::test::Fail;
-use xb_domain::{BadKind, Part};
+use xbgp_config::{MAX_COSTS, MAX_NETWORKS, MAX_PEERS};
 
-// A list of so many networks that differ, and a last one behind them.
-fn networks(alloc: Global, count: u32, last: &str) -> Result<String, AllocError> {
-    let mut text = String::from_str(
-        alloc,
-        "[speaker]\nas = 1\nid = '1.1.1.1'\naddress = '1.1.1.1'\nnetworks = [",
-    )?;
-    for i in 0..count {
-        let (high, low) = (i / 256, i % 256);
-        write!(text, "'10.{high}.{low}.0/24', ")?;
-    }
-    write!(text, "{last}]\n")?;
-    Ok(text)
+#[derive(Clone, Copy)]
+enum List {
+    Networks,
+    Peers,
+    Costs,
 }
 
-// So many peers at addresses that differ, and a last one behind them.
-fn peers(alloc: Global, count: u32, last: &str) -> Result<String, AllocError> {
-    let mut text = String::from_str(alloc, SPEAKER)?;
+// A list, the number of its entries that differ, a last one after them, and what is read of the whole.
+type Case = (List, u32, &'static str, &'static str);
+
+const CASES: [Case; 9] = [
+    (List::Networks, MAX_NETWORKS, "", "good"),
+    (List::Networks, MAX_NETWORKS + 1, "", "Count in Speaker 0"),
+    (List::Networks, MAX_NETWORKS, "5", "Count in Speaker 0"),
+    (List::Peers, MAX_PEERS, "", "good"),
+    (List::Peers, MAX_PEERS + 1, "", "Count in Top 0"),
+    (
+        List::Peers,
+        MAX_PEERS,
+        "[[peer]]\nas = 0\n",
+        "Count in Top 0",
+    ),
+    (List::Costs, MAX_COSTS, "", "good"),
+    (List::Costs, MAX_COSTS + 1, "", "Count in Top 0"),
+    (
+        List::Costs,
+        MAX_COSTS,
+        "[[cost]]\ncost = 'x'\n",
+        "Count in Top 0",
+    ),
+];
+
+// What is before the entries of a list.
+fn head(list: List) -> &'static str {
+    match list {
+        List::Networks => "[speaker]\nas = 1\nid = '1.1.1.1'\naddress = '1.1.1.1'\nnetworks = [",
+        List::Peers | List::Costs => SPEAKER,
+    }
+}
+
+// What is after them.
+fn tail(list: List) -> &'static str {
+    match list {
+        List::Networks => "]\n",
+        List::Peers | List::Costs => "",
+    }
+}
+
+// The entry of a number.
+fn entry(alloc: Global, list: List, i: u32) -> Result<String, AllocError> {
+    let (high, low) = (i / 256, i % 256);
+    match list {
+        List::Networks => format!(in alloc; "'10.{high}.{low}.0/24', "),
+        List::Peers => format!(in alloc; "[[peer]]\nas = 65001\naddress = '10.0.{high}.{low}'\n"),
+        List::Costs => format!(in alloc; "[[cost]]\nnext_hop = '10.0.{high}.{low}'\ncost = {i}\n"),
+    }
+}
+
+fn listed(alloc: Global, list: List, count: u32, last: &str) -> Result<String, AllocError> {
+    let mut text = String::from_str(alloc, head(list))?;
     for i in 0..count {
-        write!(text, "[[peer]]\nas = 65001\naddress = '10.0.0.{i}'\n")?;
+        text.push_str(&entry(alloc, list, i)?)?;
     }
     text.push_str(last)?;
+    text.push_str(tail(list))?;
     Ok(text)
 }
 
-// So many costs of next hops that differ, and a last one behind them.
-fn costs(alloc: Global, count: u32, last: &str) -> Result<String, AllocError> {
-    let mut text = String::from_str(alloc, SPEAKER)?;
-    for i in 0..count {
-        let (high, low) = (i / 256, i % 256);
-        write!(
-            text,
-            "[[cost]]\nnext_hop = '10.0.{high}.{low}'\ncost = {i}\n"
-        )?;
+#[test]
+fn entries_are_counted(rt: HostRuntime) -> Result<(), Fail> {
+    for (list, count, last, want) in CASES {
+        let text = listed(rt.alloc(), list, count, last)?;
+        assert_eq!(rt;
+            judged(rt.alloc(), text.as_bytes())?.as_str(),
+            want,
+            "{count}"
+        );
     }
-    text.push_str(last)?;
-    Ok(text)
-}
-
-#[test]
-fn networks_are_counted(rt: HostRuntime) -> Result<(), Fail> {
-    let alloc = rt.alloc();
-    let many = fault(BadKind::Count, Part::Speaker, 0);
-    let full = networks(alloc, 1024, "")?;
-    let over = networks(alloc, 1025, "")?;
-    let over_and_faulty = networks(alloc, 1024, "5")?;
-    assert_eq!(rt; fault_in(alloc, full.as_bytes())?, None);
-    assert_eq!(rt; fault_in(alloc, over.as_bytes())?, many);
-    assert_eq!(rt; fault_in(alloc, over_and_faulty.as_bytes())?, many);
-    Ok(())
-}
-
-#[test]
-fn peers_are_counted(rt: HostRuntime) -> Result<(), Fail> {
-    let alloc = rt.alloc();
-    let many = fault(BadKind::Count, Part::Top, 0);
-    let full = peers(alloc, 64, "")?;
-    let over = peers(alloc, 65, "")?;
-    let over_and_faulty = peers(alloc, 64, "[[peer]]\nas = 0\n")?;
-    assert_eq!(rt; fault_in(alloc, full.as_bytes())?, None);
-    assert_eq!(rt; fault_in(alloc, over.as_bytes())?, many);
-    assert_eq!(rt; fault_in(alloc, over_and_faulty.as_bytes())?, many);
-    Ok(())
-}
-
-#[test]
-fn costs_are_counted(rt: HostRuntime) -> Result<(), Fail> {
-    let alloc = rt.alloc();
-    let many = fault(BadKind::Count, Part::Top, 0);
-    let full = costs(alloc, 1024, "")?;
-    let over = costs(alloc, 1025, "")?;
-    let over_and_faulty = costs(alloc, 1024, "[[cost]]\ncost = 'x'\n")?;
-    assert_eq!(rt; fault_in(alloc, full.as_bytes())?, None);
-    assert_eq!(rt; fault_in(alloc, over.as_bytes())?, many);
-    assert_eq!(rt; fault_in(alloc, over_and_faulty.as_bytes())?, many);
     Ok(())
 }

@@ -1,7 +1,7 @@
 use Rattle.std.proofs.Common.{rules, ◌≡◌, ◌<◌, [], ◌∷◌, true, Ok, Err}
 use Rattle.bgp_attr.specs.Views.{attr_step_view}
-use Rattle.bgp_check.specs.Codes.{holds}
-use Rattle.bgp_check.proofs.Steps.{gathered_overrun, gathered_twice, gathered_all}
+use Rattle.bgp_check.specs.Codes.{has_bit}
+use Rattle.bgp_check.proofs.JudgementLemmas.{gathered_overrun, gathered_twice, gathered_all}
 use Rattle.bgp_check.proofs.section.codes_in.Goals as goal
 
 pub returns-in_default-step-clause-malformed : goal.returns-in_default-step-clause-malformed
@@ -14,7 +14,7 @@ returns-then-contains-clause-malformed c =
     let a = c.in-Ok.attr in
     let walk : c.attributes.attrs ≡ attr_step_view (Ok a) ∷ c.next.new.self = search rules in
     let small : a.code < 256 = search rules in
-    let held : holds c.attributes.codes.words a.code ≡ true = search rules in
+    let held : has_bit c.attributes.codes.words a.code ≡ true = search rules in
     gathered_twice c.args.section.now c.attributes.codes.words (record { at = a.at; flags = a.flags; code = a.code; value = a.value.now; raw = a.raw.now }) c.next.new.self (rw walk at c.attributes.invariant) small held
 
 pub returns-clause-malformed : goal.returns-clause-malformed

@@ -1,7 +1,7 @@
 use Rattle.std.proofs.Common.{◌≡◌, length, map}
 use Rattle.bgp_attr.specs.Attributes.{attributes}
 use Rattle.bgp_check.specs.Judgement.{attribute_check, first_check}
-use Rattle.bgp_check.proofs.Steps.{first_found}
+use Rattle.bgp_check.proofs.JudgementLemmas.{first_found}
 use Rattle.bgp_check.proofs.section.first_fault.Given as goal
 
 -- the attributes that are left have the fault

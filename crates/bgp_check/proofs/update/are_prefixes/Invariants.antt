@@ -1,6 +1,6 @@
 use Rattle.std.proofs.Common.{◌≡◌, length}
 use Rattle.xb_values.specs.Prefixes.{are_prefixes}
-use Rattle.bgp_check.proofs.Steps.{all_whole}
+use Rattle.bgp_check.proofs.JudgementLemmas.{all_whole}
 use Rattle.bgp_check.proofs.update.are_prefixes.Given as goal
 
 abbrev pub invariant-prefixes : goal.invariant-prefixes

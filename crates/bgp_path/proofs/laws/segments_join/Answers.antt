@@ -1,4 +1,4 @@
-use Rattle.bgp_path.proofs.Prepending.{segments_join_holds}
+use Rattle.bgp_path.proofs.PrependLemmas.{segments_join_holds}
 use Rattle.bgp_path.proofs.laws.segments_join.Goals as goal
 
 pub returns : goal.returns

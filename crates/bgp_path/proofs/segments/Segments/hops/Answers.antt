@@ -1,16 +1,16 @@
 use Rattle.std.proofs.Common.{arith}
 use Rattle.bgp_path.specs.Parts.{width_of}
-use Rattle.bgp_path.specs.Shown.{shown}
-use Rattle.bgp_path.proofs.Wholes.{counts_le, hops_split}
+use Rattle.bgp_path.specs.Views.{segment_view}
+use Rattle.bgp_path.proofs.SplitsLemmas.{counted_le, hops-split}
 use Rattle.bgp_path.proofs.segments.Segments.hops.Goals as goal
 
 pub segments-preserved : goal.segments-preserved
 segments-preserved c =
     let w = width_of c.self.inside.wide in
     let split = c.in-Some.ensures.splits in
-    let counted = hops_split w c.segments.rest.now (shown c.in-Some.segment) c.in-Some.behind.now split in
+    let counted = hops-split w c.segments.rest.now (segment_view c.in-Some.segment) c.in-Some.after.now split in
     record {
       ok = split.ok;
-      fits = omega (arith, c.hops_of-hops.ensures, counts_le c.in-Some.segment.set c.in-Some.segment.count, c.in-Some.ensures.shorter, c.segments.invariant.fits);
+      fits = omega (arith, c.hops_of-hops.ensures, counted_le c.in-Some.segment.set c.in-Some.segment.count, c.in-Some.ensures.shorter, c.segments.invariant.fits);
       counted = omega (arith, counted, c.hops_of-hops.ensures, c.segments.invariant.counted);
     }
