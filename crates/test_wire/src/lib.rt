@@ -2,7 +2,8 @@
 //! that comes up and expires, messages that come in pieces, messages as they are written, and what `bgp_write` writes,
 //! read again by `bgp_frame`, `bgp_open` and `bgp_check`, whatever the pieces are in which it comes.
 //!
-//! The only function is a small caller, whose proof shows that the contracts of those crates fit together.
+//! The functions, here and in [`refusing`], are small callers, whose proofs show that the contracts of those crates fit
+//! together.
 #![tactic(auto)]
 
 ghost use Rattle.std.specs.Prelude.{◌≡◌, None, IfSome};
@@ -11,6 +12,8 @@ ghost use Rattle.bgp_open.specs.Opens.{judge_open};
 use bgp_frame::{Frames, Next};
 use bgp_open::{OpenSeen, OpenWant, read_open};
 use xb_wire::numbers::OPEN;
+
+pub mod refusing;
 
 /// Removes the first message that waits, and returns what it says if it is an OPEN that is accepted.
 pub fn next_open(frames: &mut Frames, want: &OpenWant) -> Option<OpenSeen>
