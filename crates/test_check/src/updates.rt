@@ -69,8 +69,8 @@ d0c8000101 0
 00ff00 2
 60c8020102 2";
 
-// In each row withdrawn prefixes, section and announced prefixes in hexadecimal, then the subcode of the first fault, or
-// 0, and its data; `-` is no octets.
+// In each row withdrawn prefixes, section and announced prefixes in hexadecimal, then the subcode of the first
+// fault, or 0, and its data; `-` is no octets.
 const UPDATES: &str = "- - - 0 -
 200a000001 - - 0 -
 00080a - - 0 -
