@@ -1,6 +1,8 @@
-pub mod Canonical
-pub mod Reading
-pub mod Places
-pub mod Finding
-pub mod Edits
-pub mod Loading
+pub mod CanonicalLemmas
+pub mod LowerLemmas
+pub mod FoundLemmas
+pub mod ReadingLemmas
+pub mod EditsLemmas
+pub mod LengthsLemmas
+pub mod IndexesLemmas
+pub mod ViewsLemmas

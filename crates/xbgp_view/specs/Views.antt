@@ -7,21 +7,21 @@ use Rattle.bgp_attr.specs.Routes.{Attribute, Route, attribute_at}
 abbrev pub flags_and_length : Route → ℕ → Option (ℕ × ℕ)
 flags_and_length route code = option_map (λ a. (a.flags, length a.value)) (attribute_at route code)
 
--- the least code that is at least a number
+-- the least code that is at least `from`
 abbrev pub code_from : Route → ℕ → Option ℕ
 code_from route from = option_map (λ e. e.0) (find (λ e. nat_le from e.0) route)
 
--- the length of a value, where it is there and fits
+-- the length of a value, if it is there and fits
 abbrev pub length_that_fits : Option Attribute → ℕ → Option ℕ
 length_that_fits None room = None
 length_that_fits (Some a) room = if nat_lt room (length a.value) then None else Some (length a.value)
 
--- the value stands at the front, and the rest is as before; nothing is copied where it is absent or too long
+-- the value over the front of a slice; nothing is copied if it is absent or longer than the slice
 abbrev pub copied : Option Attribute → List ℕ → List ℕ
 copied None old = old
 copied (Some a) old = if nat_lt (length old) (length a.value) then old else a.value ++ drop (length a.value) old
 
--- an editable route and the copy that is kept of it
+-- an editable route, and the copy that is kept
 pub record Edited : Type 0 where
   pub route : Route
   pub kept : Route

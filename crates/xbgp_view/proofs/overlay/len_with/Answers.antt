@@ -1,6 +1,6 @@
 use Rattle.std.proofs.Common.{◌+◌, ◌-◌, ap, ◌∙◌, sym, length}
 use Rattle.bgp_attr.specs.Routes.{kept_flags}
-use Rattle.xbgp_view.proofs.Edits.{filled_size}
+use Rattle.xbgp_view.proofs.EditsLemmas.{length-canon-with_attribute}
 use Rattle.xbgp_view.proofs.overlay.len_with.Goals as goal
 
 pub returns : goal.returns
@@ -8,4 +8,4 @@ returns c flags =
     let s = c.args.section.now in
     let g = c.gap_at-gap.result in
     ap (λ n. g.start + (n + (length s - g.end))) (c.spelled_len.ensures.value c.args.code (kept_flags flags))
-    ∙ sym (filled_size s c.args.value.now c.args.code flags (g.start, g.end) c.requires c.gap_at-gap.ensures)
+    ∙ sym (length-canon-with_attribute s c.args.value.now c.args.code flags (g.start, g.end) c.requires c.gap_at-gap.ensures)

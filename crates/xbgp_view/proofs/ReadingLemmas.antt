@@ -11,15 +11,17 @@ use Rattle.std.proofs.lemmas.Cmp.{nat_cmp_total}
 use Rattle.xb_words.specs.Cut.{Pieces, cut}
 use Rattle.xb_words.specs.Table.{with_value}
 use Rattle.bgp_attr.specs.Attributes.{attr_flags, attr_code, attr_value}
+use Rattle.bgp_attr.specs.declared.TheConstants.{MAX_CANONICAL}
+use Rattle.bgp_attr.specs.declared.flags.TheConstants.{KEPT}
 use Rattle.bgp_attr.specs.Routes.{Attribute, Route, route_of, canon, canonical, neutral, with_attribute, IsRoute}
 use Rattle.xbgp_view.specs.Sections.{IsCanonical}
-use Rattle.xbgp_view.proofs.Canonical.{IsSpelled, all_spelled, canon_cut}
+use Rattle.xbgp_view.proofs.CanonicalLemmas.{IsSpelled, IsSpelled-all, cut-canon}
 
 -- every key is below a code
 abbrev Below : ℕ → Route → Type 0
 Below code r = AllByRecursion (λ k. nat_cmp k code ≡ Less) (keys_of r)
 
--- an attribute behind all others is appended
+-- an attribute after all others is appended
 add_last : (r : Route) (code : ℕ) (a : Attribute) → Below code r → with_value nat_cmp r code a ≡ r ++ (code, a) ∷ []
 add_last [] code a below = refl
 add_last (e ∷ r) code a below =
@@ -43,7 +45,7 @@ enter r a = with_attribute r (attr_code a) (attr_flags a) (attr_value a)
 
 entered : (acc : Route) (e : ℕ × Attribute) → IsSpelled e → Below e.0 acc → enter acc (canonical e) ≡ acc ++ e ∷ []
 entered acc e is below =
-    ap (λ c. with_value nat_cmp acc c (record { flags = (bit_and (attr_flags (canonical e)) 224); value = attr_value (canonical e) })) is.code
+    ap (λ c. with_value nat_cmp acc c (record { flags = (bit_and (attr_flags (canonical e)) KEPT); value = attr_value (canonical e) })) is.code
     ∙ ap (λ f. with_value nat_cmp acc e.0 (record { flags = f; value = attr_value (canonical e) })) is.flags
     ∙ ap (λ v. with_value nat_cmp acc e.0 (record { flags = e.1.flags; value = v })) is.value
     ∙ add_last acc e.0 e.1 below
@@ -61,19 +63,25 @@ none_below : (r : Route) → AllBelow [] r
 none_below [] = tt
 none_below (e ∷ r) = (tt, none_below r)
 
-pub route_back : (r : Route) → IsRoute r → route_of (canon r) ≡ r
-route_back r is =
-    let all = all_spelled r 4112 is.entries is.short (omega arith) in
-    ap (λ (p : Pieces). neutral p.items) (canon_cut r all) ∙ entered_all [] r all is.rising (none_below r)
+-- a route is what its canonical section is read as
+pub route_of-canon : (r : Route) → IsRoute r → route_of (canon r) ≡ r
+route_of-canon r is =
+    let all = IsSpelled-all r MAX_CANONICAL is.entries is.short (omega arith) in
+    ap (λ (p : Pieces). neutral p.items) (cut-canon r all) ∙ entered_all [] r all is.rising (none_below r)
 
-pub canonical_is : (r : Route) → IsRoute r → IsCanonical (canon r)
-canonical_is r is = record { route = subst IsRoute (sym (route_back r is)) is; octets = ap canon (route_back r is) }
+-- the canonical section of a route is canonical
+pub IsCanonical-canon : (r : Route) → IsRoute r → IsCanonical (canon r)
+IsCanonical-canon r is = record { route = subst IsRoute (sym (route_of-canon r is)) is; octets = ap canon (route_of-canon r is) }
 
 -- the section of no attributes
-pub no_route : route_of [] ≡ []
+pub route_of_nothing : route_of [] ≡ []
 unfolding cut
-no_route = refl
+route_of_nothing = refl
 
-pub empty_is : IsCanonical []
+-- the empty section is canonical
+pub empty_is_canonical : IsCanonical []
 unfolding IsStrictlySortedBy
-empty_is = canonical_is [] (record { rising = tt; entries = tt; short = omega arith })
+empty_is_canonical = IsCanonical-canon [] (record { rising = tt; entries = tt; short = omega arith })
+
+-- the empty section
+pub ruleset empty_section = (empty_is_canonical, route_of_nothing)

@@ -1,11 +1,27 @@
-use crate::{Overlay, RouteView};
+use crate::{canonical_by_overlay, canonical_in_place};
+use bgp_attr::MAX_CANONICAL;
 use std::test::Fail;
 use xb_values::Buf;
+use xbgp_view::{Overlay, RouteView, append_attribute};
+
+// Code 5 with a long length and low flags, code 1, code 5 again, and a header that wants more than is left.
+const SECTION: [u8; 15] = [0x5f, 5, 0, 1, 9, 0x40, 1, 1, 0, 0x40, 5, 1, 7, 0xc0, 8];
+
+#[test]
+fn a_section_is_read_and_written_again(rt: HostRuntime) -> Result<(), Fail> {
+    let mut route = Overlay::make(rt.alloc())?;
+    let mut out = Buf::make(rt.alloc(), MAX_CANONICAL)?;
+    canonical_by_overlay(&mut route, &SECTION, &mut out);
+    assert_eq!(rt; out.as_slice(), [0x40, 1, 1, 0, 0x40, 5, 1, 7].as_slice());
+    canonical_in_place(&SECTION[..9], &mut out);
+    assert_eq!(rt; out.as_slice(), [0x40, 1, 1, 0, 0x40, 5, 1, 9].as_slice());
+    Ok(())
+}
 
 #[test]
 fn a_route_is_edited(rt: HostRuntime) -> Result<(), Fail> {
     let mut route = Overlay::make(rt.alloc())?;
-    let mut section = Buf::make(rt.alloc(), 4112)?;
+    let mut section = Buf::make(rt.alloc(), MAX_CANONICAL)?;
     assert!(rt; route.set(4, 0x80, &[0, 0, 0, 20], 10));
     assert_eq!(rt; route.section_len(), 7);
     assert!(rt; !route.set(5, 0x40, &[0, 0, 0, 100], 10));
@@ -33,5 +49,13 @@ fn a_view_shows_the_route(rt: HostRuntime) -> Result<(), Fail> {
     let mut value = [0u8; 2];
     assert_eq!(rt; route.copy(1, &mut value), Some(1));
     assert_eq!(rt; value, [2, 0]);
+    Ok(())
+}
+
+#[test]
+fn an_attribute_is_appended(rt: HostRuntime) -> Result<(), Fail> {
+    let mut out = Buf::make(rt.alloc(), 4)?;
+    append_attribute(&mut out, 1, 0x40, &[2]);
+    assert_eq!(rt; out.as_slice(), [0x40, 1, 1, 2].as_slice());
     Ok(())
 }

@@ -10,13 +10,14 @@ use Rattle.xb_words.specs.Octets.{two_at, two_octets}
 use Rattle.xb_words.specs.Cut.{cut, IsStable, IsItem}
 use Rattle.xb_words.proofs.CutLemmas.{cut-concat}
 use Rattle.bgp_attr.specs.Attributes.{attribute_size, attr_flags, attr_code, attr_value, has_long_length, header_size, whole_size}
+use Rattle.bgp_attr.specs.declared.TheConstants.{MAX_CANONICAL}
 use Rattle.bgp_attr.specs.Routes.{Attribute, Route, canon, canonical, kept_flags, IsEntry, IsRoute}
 use Rattle.bgp_attr.proofs.AttributesLemmas.{IsSize-attribute_size}
 use Rattle.std.proofs.lemmas.Option.{cond_some}
 
--- a size tells that the whole attribute is there
-whole : (s : List ℕ) (n : ℕ) → attribute_size s ≡ Some n → (whole_size s ≤ length s) × (whole_size s ≡ n)
-whole s n e =
+-- a size means that the whole attribute is there
+pub attribute_size-some : (s : List ℕ) (n : ℕ) → attribute_size s ≡ Some n → (whole_size s ≤ length s) × (whole_size s ≡ n)
+attribute_size-some s n e =
     let p = cond_some (nat_le (whole_size s) (length s)) (whole_size s) n e in
     (leb-true (whole_size s) (length s) p.0, p.1)
 
@@ -24,7 +25,7 @@ three : (b : Bool) → 3 ≤ cond b 4 3
 three true = omega arith
 three false = omega arith
 
--- an attribute that is there is as long with more behind it
+-- an attribute that is there is as long if octets come after it
 front_size : (s t : List ℕ) → whole_size s ≤ length s → whole_size (s ++ t) ≡ whole_size s
 front_size [] t fits = absurd (omega (arith, fits, three (has_long_length 0)))
 front_size (f ∷ []) t fits = absurd (omega (arith, fits, three (has_long_length f)))
@@ -37,29 +38,33 @@ front_size (f ∷ c ∷ l ∷ []) t fits = elim (cases_Bool (has_long_length f))
 ]
 front_size (f ∷ c ∷ l ∷ m ∷ s) t fits = refl
 
-pub attribute_is_stable : IsStable attribute_size
-attribute_is_stable s t n e =
-    let w = whole s n e in
+-- octets after an attribute do not change its size
+pub IsStable-attribute_size : IsStable attribute_size
+IsStable-attribute_size s t n e =
+    let w = attribute_size-some s n e in
     let same = front_size s t w.0 in
     let fits : whole_size (s ++ t) ≤ length (s ++ t) = omega (arith, w.0, same, length-append s t) in
     rw (le-leb (whole_size (s ++ t)) (length (s ++ t)) fits) (ap Some (same ∙ w.1))
 
 -- the flags that a route keeps do not touch the flag of a long length
-pub short_flag : (f : ℕ) → kept_flags f ≡ f → has_long_length f ≡ false
-short_flag f kept =
+pub has_long_length-kept : (f : ℕ) → kept_flags f ≡ f → has_long_length f ≡ false
+has_long_length-kept f kept =
     ap (λ n. not (n == 0)) (ap (λ n. bit_and n 16) (sym kept) ∙ and_assoc 16 f 224 ∙ and_zero_r f)
 
 apart : (f : ℕ) → kept_flags f ≡ f → bit_and f 16 ≡ 0
 apart f kept = ap (λ n. bit_and n 16) (sym kept) ∙ and_assoc 16 f 224 ∙ and_zero_r f
 
-pub with_flag : (f : ℕ) → kept_flags f ≡ f → f + 16 ≡ bit_or f 16
-with_flag f kept = sym (or_disjoint f 16 (apart f kept))
+-- adding the flag of a long length sets its bit
+pub extended_is_or : (f : ℕ) → kept_flags f ≡ f → f + 16 ≡ bit_or f 16
+extended_is_or f kept = sym (or_disjoint f 16 (apart f kept))
 
-pub long_flag : (f : ℕ) → kept_flags f ≡ f → has_long_length (f + 16) ≡ true
-long_flag f kept = ap (λ n. not (n == 0)) (ap (λ n. bit_and n 16) (with_flag f kept) ∙ and_or_self 16 f)
+-- then the length has two octets
+pub has_long_length-extended : (f : ℕ) → kept_flags f ≡ f → has_long_length (f + 16) ≡ true
+has_long_length-extended f kept = ap (λ n. not (n == 0)) (ap (λ n. bit_and n 16) (extended_is_or f kept) ∙ and_or_self 16 f)
 
-pub flag_is_cut : (f : ℕ) → kept_flags f ≡ f → kept_flags (f + 16) ≡ f
-flag_is_cut f kept = ap kept_flags (with_flag f kept) ∙ and_or_apart 224 f 16 refl ∙ kept
+-- a route does not keep the flag
+pub kept_flags-extended : (f : ℕ) → kept_flags f ≡ f → kept_flags (f + 16) ≡ f
+kept_flags-extended f kept = ap kept_flags (extended_is_or f kept) ∙ and_or_apart 224 f 16 refl ∙ kept
 
 -- what is read of a canonical attribute
 pub record IsSpelled (e : ℕ × Attribute) : Type 0 where
@@ -75,7 +80,7 @@ module _ (code flags : ℕ) (value : List ℕ) (kept : kept_flags flags ≡ flag
   short_is : nat_lt 255 (length value) ≡ false → IsSpelled e
   short_is short =
       let is : canonical e ≡ flags ∷ code ∷ length value ∷ value = rw short refl in
-      let flag = short_flag flags kept in
+      let flag = has_long_length-kept flags kept in
       let size : attribute_size (flags ∷ code ∷ length value ∷ value) ≡ Some (3 + length value) =
       rw flag (rw (le-leb (3 + length value) (length (flags ∷ code ∷ length value ∷ value)) (omega arith)) refl) in
       record {
@@ -88,19 +93,20 @@ module _ (code flags : ℕ) (value : List ℕ) (kept : kept_flags flags ≡ flag
   long_is : nat_lt 255 (length value) ≡ true → length value < 2 ^ 16 → IsSpelled e
   long_is long small =
       let is : canonical e ≡ (flags + 16) ∷ code ∷ two_octets (length value) ++ value = rw long refl in
-      let flag = long_flag flags kept in
+      let flag = has_long_length-extended flags kept in
       let read : two_at (two_octets (length value)) 0 ≡ length value = from_be_bytes-to_be_bytes_2 (length value) small in
       let size : attribute_size ((flags + 16) ∷ code ∷ two_octets (length value) ++ value) ≡ Some (4 + length value) =
       rw (flag, read) (rw (le-leb (4 + length value) (length ((flags + 16) ∷ code ∷ two_octets (length value) ++ value)) (omega arith)) refl) in
       record {
         item = subst (λ (s : List ℕ). IsItem attribute_size s) (sym is) (size ∙ ap Some (omega arith));
-        flags = ap (λ s. kept_flags (attr_flags s)) is ∙ flag_is_cut flags kept;
+        flags = ap (λ s. kept_flags (attr_flags s)) is ∙ kept_flags-extended flags kept;
         code = ap attr_code is;
         value = ap attr_value is ∙ (rw flag refl);
       }
 
-pub spelled : (e : ℕ × Attribute) → kept_flags e.1.flags ≡ e.1.flags → length e.1.value < 2 ^ 16 → IsSpelled e
-spelled e kept small = elim (cases_Bool (nat_lt 255 (length e.1.value))) [
+-- an entry with a value that is not too long
+pub IsSpelled-entry : (e : ℕ × Attribute) → kept_flags e.1.flags ≡ e.1.flags → length e.1.value < 2 ^ 16 → IsSpelled e
+IsSpelled-entry e kept small = elim (cases_Bool (nat_lt 255 (length e.1.value))) [
   | inl long ↦ long_is e.0 e.1.flags e.1.value kept long small
   | inr short ↦ short_is e.0 e.1.flags e.1.value kept short
 ]
@@ -109,18 +115,20 @@ spelled e kept small = elim (cases_Bool (nat_lt 255 (length e.1.value))) [
 pub record AreSpelled (r : Route) : Type 0 where
   pub all : AllByRecursion IsSpelled r
 
-pub long_value : (e : ℕ × Attribute) → length e.1.value ≤ length (canonical e)
-long_value e = elim (cases_Bool (nat_lt 255 (length e.1.value))) [
+-- a value is no longer than its attribute
+pub length-value-canonical : (e : ℕ × Attribute) → length e.1.value ≤ length (canonical e)
+length-value-canonical e = elim (cases_Bool (nat_lt 255 (length e.1.value))) [
   | inl long ↦ rw long (omega arith)
   | inr short ↦ rw short (omega arith)
 ]
 
-pub all_spelled : (r : Route) (n : ℕ) → AllByRecursion IsEntry r → length (canon r) ≤ n → n < 2 ^ 16 → AllByRecursion IsSpelled r
-all_spelled [] n entries short small = tt
-all_spelled (e ∷ r) n entries short small =
+-- all entries of a route whose canonical section is not too long
+pub IsSpelled-all : (r : Route) (n : ℕ) → AllByRecursion IsEntry r → length (canon r) ≤ n → n < 2 ^ 16 → AllByRecursion IsSpelled r
+IsSpelled-all [] n entries short small = tt
+IsSpelled-all (e ∷ r) n entries short small =
     let sum = length-append (canonical e) (canon r) in (
-      spelled e entries.0.flags (omega (arith, long_value e, sum, short, small)),
-      all_spelled r n entries.1 (omega (arith, sum, short)) small,
+      IsSpelled-entry e entries.0.flags (omega (arith, length-value-canonical e, sum, short, small)),
+      IsSpelled-all r n entries.1 (omega (arith, sum, short)) small,
     )
 
 all_items : (r : Route) → AllByRecursion IsSpelled r → AllByRecursion (IsItem attribute_size) (map canonical r)
@@ -132,11 +140,11 @@ canon_joined [] = refl
 canon_joined (e ∷ r) = ap (λ s. canonical e ++ s) (canon_joined r)
 
 -- a canonical section is cut into the spellings of its entries
-pub canon_cut : (r : Route) → AllByRecursion IsSpelled r → cut attribute_size (canon r) ≡ record { items = map canonical r; rest = [] }
-canon_cut r all =
+pub cut-canon : (r : Route) → AllByRecursion IsSpelled r → cut attribute_size (canon r) ≡ record { items = map canonical r; rest = [] }
+cut-canon r all =
     ap (cut attribute_size) (canon_joined r ∙ sym (append-nil (concat (map canonical r))))
-    ∙ cut-concat attribute_size attribute_is_size attribute_is_stable (map canonical r) [] (all_items r all) refl
+    ∙ cut-concat attribute_size IsSize-attribute_size IsStable-attribute_size (map canonical r) [] (all_items r all) refl
 
 -- a whole route has spelled entries
-pub route_spelled : (r : Route) → IsRoute r → AllByRecursion IsSpelled r
-route_spelled r is = all_spelled r 4112 is.entries is.short (omega arith)
+pub IsSpelled-route : (r : Route) → IsRoute r → AllByRecursion IsSpelled r
+IsSpelled-route r is = IsSpelled-all r MAX_CANONICAL is.entries is.short (omega arith)

@@ -9,56 +9,59 @@ use Rattle.std.proofs.lemmas.List.{length-append, length-drop, take_at, append-n
 use Rattle.std.specs.List.Sorted.{IsStrictlySortedBy}
 use Rattle.std.specs.Map.{keys_of}
 use Rattle.std.proofs.Common.{append_assoc}
+use Rattle.bgp_attr.specs.declared.TheConstants.{MAX_CANONICAL}
 use Rattle.bgp_attr.specs.Routes.{Attribute, Route, attribute_at, canon, canonical, kept_flags, IsEntry, IsRoute}
 use Rattle.xbgp_view.specs.Views.{code_from, copied, flags_and_length}
-use Rattle.xbgp_view.specs.Sections.{entry_octets, lower, upper}
-use Rattle.xbgp_view.proofs.Canonical.{long_value}
-use Rattle.xbgp_view.proofs.Finding.{canon_parts}
-use Rattle.xbgp_view.proofs.Places.{split_is, greater, equal, is_less}
+use Rattle.xbgp_view.specs.Sections.{entry_octets, below_code, from_code}
+use Rattle.xbgp_view.proofs.CanonicalLemmas.{length-value-canonical}
+use Rattle.xbgp_view.proofs.FoundLemmas.{canon-append}
+use Rattle.xbgp_view.proofs.LowerLemmas.{below_code-from_code, nat_cmp-greater, nat_cmp-equal, lt-nat_cmp}
 
 -- the value of an attribute that is there
 abbrev pub value_in : Option Attribute → List ℕ
 value_in None = []
 value_in (Some a) = a.value
 
-pub known : (o : Option Attribute) (flags n : ℕ) → ◌≡◌ {A = Option (ℕ × ℕ)} (Some (flags, n)) (option_map (λ a. (a.flags, length a.value)) o)
+-- an attribute whose flags and length are shown
+pub flags_and_length-some : (o : Option Attribute) (flags n : ℕ) → ◌≡◌ {A = Option (ℕ × ℕ)} (Some (flags, n)) (option_map (λ a. (a.flags, length a.value)) o)
     → (o ≡ Some (record { flags = flags; value = value_in o })) × (length (value_in o) ≡ n)
-known None flags n e = absurd (cc e)
-known (Some a) flags n e =
+flags_and_length-some None flags n e = absurd (cc e)
+flags_and_length-some (Some a) flags n e =
     let pair : ◌≡◌ {A = ℕ × ℕ} (flags, n) (a.flags, length a.value) = ap (λ o. unwrap_or o (flags, n)) e in
     let same : flags ≡ a.flags = ap (λ (p : ℕ × ℕ). p.0) pair in
     let size : n ≡ length a.value = ap (λ (p : ℕ × ℕ). p.1) pair in
     (ap (λ f. Some (record { flags = f; value = a.value })) (sym same), sym size)
 
 -- an attribute of a route is one that a section can spell, and its value is short
-pub entry_is : (r : Route) (code : ℕ) (a : Attribute) → AllByRecursion IsEntry r → attribute_at r code ≡ Some a → (kept_flags a.flags ≡ a.flags) × (length a.value ≤ length (canon r))
-entry_is [] code a all e = absurd (cc e)
-entry_is (x ∷ r) code a all e =
+pub IsEntry-attribute_at : (r : Route) (code : ℕ) (a : Attribute) → AllByRecursion IsEntry r → attribute_at r code ≡ Some a → (kept_flags a.flags ≡ a.flags) × (length a.value ≤ length (canon r))
+IsEntry-attribute_at [] code a all e = absurd (cc e)
+IsEntry-attribute_at (x ∷ r) code a all e =
     let sum = length-append (canonical x) (canon r) in
     elim (nat_cmp code x.0) as (λ o. nat_cmp code x.0 ≡ o → (kept_flags a.flags ≡ a.flags) × (length a.value ≤ length (canon (x ∷ r)))) [
-      | Less ↦ λ is. let rest = entry_is r code a all.1 (rw is at e) in (rest.0, omega (arith, rest.1, sum))
+      | Less ↦ λ is. let rest = IsEntry-attribute_at r code a all.1 (rw is at e) in (rest.0, omega (arith, rest.1, sum))
       | Equal ↦ λ is.
           let found : Some x.1 ≡ Some a = rw is at e in
           let same : x.1 ≡ a = cc found in (
             ap (λ (b : Attribute). kept_flags b.flags) (sym same) ∙ all.0.flags ∙ ap (λ (b : Attribute). b.flags) same,
-            omega (arith, ap (λ (b : Attribute). length b.value) same, long_value x, sum),
+            omega (arith, ap (λ (b : Attribute). length b.value) same, length-value-canonical x, sum),
           )
-      | Greater ↦ λ is. let rest = entry_is r code a all.1 (rw is at e) in (rest.0, omega (arith, rest.1, sum))
+      | Greater ↦ λ is. let rest = IsEntry-attribute_at r code a all.1 (rw is at e) in (rest.0, omega (arith, rest.1, sum))
     ] refl
 
 -- what was copied of an attribute spells it again
 pub record IsRead (r : Route) (code flags n : ℕ) (new : List ℕ) : Type 0 where
-  pub len : length new ≡ 4112
+  pub len : length new ≡ MAX_CANONICAL
   pub fits : n ≤ length new
   pub kept : kept_flags flags ≡ flags
   pub octets : canonical (code, record { flags = flags; value = take n new }) ≡ entry_octets code (attribute_at r code)
 
-pub is_read : (r : Route) (code flags n : ℕ) (old new : List ℕ) → IsRoute r → ◌≡◌ {A = Option (ℕ × ℕ)} (Some (flags, n)) (flags_and_length r code) → length old ≡ 4112
+-- what was copied of an attribute
+pub IsRead-copied : (r : Route) (code flags n : ℕ) (old new : List ℕ) → IsRoute r → ◌≡◌ {A = Option (ℕ × ℕ)} (Some (flags, n)) (flags_and_length r code) → length old ≡ MAX_CANONICAL
     → new ≡ copied (attribute_at r code) old → IsRead r code flags n new
-is_read r code flags n old new is told size e =
-    let k = known (attribute_at r code) flags n told in
+IsRead-copied r code flags n old new is told size e =
+    let k = flags_and_length-some (attribute_at r code) flags n told in
     let v = value_in (attribute_at r code) in
-    let entry = entry_is r code (record { flags = flags; value = v }) is.entries k.0 in
+    let entry = IsEntry-attribute_at r code (record { flags = flags; value = v }) is.entries k.0 in
     let short : length v ≤ length old = omega (arith, entry.1, is.short, size) in
     let here : new ≡ v ++ drop (length v) old = e ∙ ap (λ o. copied o old) k.0 ∙ rw (le-ltb (length old) (length v) short) refl in
     let total : length new ≡ length old = ap length here ∙ length-append v (drop (length v) old) ∙ ap (λ m. length v + m) (length-drop (length v) old) ∙ omega (arith, short) in
@@ -74,27 +77,28 @@ is_read r code flags n old new is told size e =
 pub record IsNext (r : Route) (from code : ℕ) : Type 0 where
   pub past : from ≤ code
   pub inside : code < 256
-  pub lower : canon (lower (code + 1) r) ≡ canon (lower from r) ++ entry_octets code (attribute_at r code)
+  pub lower : canon (below_code (code + 1) r) ≡ canon (below_code from r) ++ entry_octets code (attribute_at r code)
 
-none_lower : (code k : ℕ) (r : Route) → code ≤ k → AllByRecursion (λ x. nat_cmp k x ≡ Less) (keys_of r) → lower (code + 1) r ≡ []
+none_lower : (code k : ℕ) (r : Route) → code ≤ k → AllByRecursion (λ x. nat_cmp k x ≡ Less) (keys_of r) → below_code (code + 1) r ≡ []
 none_lower code k [] l all = refl
 none_lower code k (e ∷ r) l all =
-    let above : k < e.0 = is_less k e.0 all.0 in
+    let above : k < e.0 = lt-nat_cmp k e.0 all.0 in
     rw (le-ltb e.0 (code + 1) (omega (arith, above, l))) refl
 
-pub is_next : (r : Route) (from code : ℕ) → AllByRecursion IsEntry r → IsStrictlySortedBy nat_cmp (keys_of r) → Some code ≡ code_from r from → IsNext r from code
+-- the next code that a view shows
+pub IsNext-code_from : (r : Route) (from code : ℕ) → AllByRecursion IsEntry r → IsStrictlySortedBy nat_cmp (keys_of r) → Some code ≡ code_from r from → IsNext r from code
 unfolding IsStrictlySortedBy
-is_next [] from code all rising e = absurd (cc e)
-is_next (x ∷ r) from code all rising e = elim (cases_Bool (nat_lt x.0 from)) [
+IsNext-code_from [] from code all rising e = absurd (cc e)
+IsNext-code_from (x ∷ r) from code all rising e = elim (cases_Bool (nat_lt x.0 from)) [
   | inl below ↦
       let no : nat_le from x.0 ≡ false = lt-leb from x.0 (ltb-true x.0 from below) in
-      let n = is_next r from code all.1 rising.1 (rw no at e) in
+      let n = IsNext-code_from r from code all.1 rising.1 (rw no at e) in
       let before : x.0 < code = omega (arith, n.past, ltb-true x.0 from below) in
       record {
         past = n.past;
         inside = n.inside;
-        lower = rw (below, lt-ltb x.0 (code + 1) (omega (arith, before)), greater code x.0 before)
-            (ap (λ t. canonical x ++ t) n.lower ∙ sym (append_assoc (canonical x) (canon (lower from r)) (entry_octets code (attribute_at r code))));
+        lower = rw (below, lt-ltb x.0 (code + 1) (omega (arith, before)), nat_cmp-greater code x.0 before)
+            (ap (λ t. canonical x ++ t) n.lower ∙ sym (append_assoc (canonical x) (canon (below_code from r)) (entry_octets code (attribute_at r code))));
       }
   | inr here ↦
       let yes : nat_le from x.0 ≡ true = le-leb from x.0 (ltb-false x.0 from here) in
@@ -103,28 +107,29 @@ is_next (x ∷ r) from code all rising e = elim (cases_Bool (nat_lt x.0 from)) [
       record {
         past = omega (arith, same, ltb-false x.0 from here);
         inside = omega (arith, same, all.0.code);
-        lower = rw (here, lt-ltb x.0 (code + 1) (omega (arith, same)), equal code x.0 same, none_lower code x.0 r (omega (arith, same)) rising.0)
+        lower = rw (here, lt-ltb x.0 (code + 1) (omega (arith, same)), nat_cmp-equal code x.0 same, none_lower code x.0 r (omega (arith, same)) rising.0)
             (append-nil (canonical x) ∙ ap (λ k. canonical (k, x.1)) (sym same));
       }
 ]
 
-pub all_lower : (r : Route) (from : ℕ) → None ≡ code_from r from → lower from r ≡ r
-all_lower [] from e = refl
-all_lower (x ∷ r) from e = elim (cases_Bool (nat_lt x.0 from)) [
+-- if no code is left, all entries are below
+pub below_code-all : (r : Route) (from : ℕ) → None ≡ code_from r from → below_code from r ≡ r
+below_code-all [] from e = refl
+below_code-all (x ∷ r) from e = elim (cases_Bool (nat_lt x.0 from)) [
   | inl below ↦
       let no : nat_le from x.0 ≡ false = lt-leb from x.0 (ltb-true x.0 from below) in
-      rw below (ap (λ (l : Route). x ∷ l) (all_lower r from (rw no at e)))
+      rw below (ap (λ (l : Route). x ∷ l) (below_code-all r from (rw no at e)))
   | inr here ↦
       let yes : nat_le from x.0 ≡ true = le-leb from x.0 (ltb-false x.0 from here) in
       let found : None ≡ Some x.0 = rw yes at e in
       absurd (cc found)
 ]
 
--- nothing stands below 0
-pub zero_lower : (r : Route) → lower 0 r ≡ []
-zero_lower [] = refl
-zero_lower (x ∷ r) = rw (le-ltb x.0 0 (omega arith)) refl
+-- no entry is below 0
+pub below_code-zero : (r : Route) → below_code 0 r ≡ []
+below_code-zero [] = refl
+below_code-zero (x ∷ r) = rw (le-ltb x.0 0 (omega arith)) refl
 
 -- the entries below a number are part of the route
-pub lower_short : (r : Route) (from : ℕ) → length (canon (lower from r)) ≤ length (canon r)
-lower_short r from = omega (arith, ap length (sym (canon_parts (lower from r) (upper from r)) ∙ ap canon (split_is from r)), length-append (canon (lower from r)) (canon (upper from r)))
+pub length-canon-below_code : (r : Route) (from : ℕ) → length (canon (below_code from r)) ≤ length (canon r)
+length-canon-below_code r from = omega (arith, ap length (sym (canon-append (below_code from r) (from_code from r)) ∙ ap canon (below_code-from_code from r)), length-append (canon (below_code from r)) (canon (from_code from r)))

@@ -10,41 +10,41 @@ use Rattle.xb_words.specs.Table.{first_of}
 use Rattle.bgp_attr.specs.Attributes.{attr_code}
 use Rattle.bgp_attr.specs.Routes.{Route, route_of, canon, canonical}
 use Rattle.bgp_attr.specs.Walks.{FoundAttr, found_attr, overrun, attributes_from}
-use Rattle.xbgp_view.specs.Sections.{IsGap, at_code, gap_of, IsCanonical, lower, upper, past, found_from}
-use Rattle.xbgp_view.proofs.Canonical.{IsSpelled, canon_cut, route_spelled}
+use Rattle.xbgp_view.specs.Sections.{IsGap, at_code, gap_of, IsCanonical, below_code, from_code, past_code, found_from}
+use Rattle.xbgp_view.proofs.CanonicalLemmas.{IsSpelled, cut-canon, IsSpelled-route}
 use Rattle.bgp_attr.specs.Routes.{attribute_at}
 use Rattle.std.proofs.lemmas.Bool.Decides.{eqb_tells}
 use Rattle.xbgp_view.specs.Views.{code_from}
-use Rattle.xbgp_view.proofs.Places.{split_is, front, at_is}
+use Rattle.xbgp_view.proofs.LowerLemmas.{below_code-from_code, front, value_at-from_code}
 
--- the entry with which some entries begin, at a place
-abbrev pub head_found : ℕ → Route → Option Found
-head_found at r = option_map (λ e. found at (canonical e)) (first_of r)
+-- the first of some entries, at an offset
+abbrev pub head_found : ℕ → Route → Option FoundAttr
+head_found at r = option_map (λ e. found_attr at (canonical e)) (first_of r)
 
 found_in : (from at : ℕ) (r : Route) → AllByRecursion IsSpelled r
-    → found_from from (walk found_attr overrun at (map canonical r) []) ≡ head_found (at + length (canon (lower from r))) (upper from r)
+    → found_from from (walk found_attr overrun at (map canonical r) []) ≡ head_found (at + length (canon (below_code from r))) (from_code from r)
 found_in from at [] all = refl
 found_in from at (e ∷ r) all = elim (cases_Bool (nat_lt e.0 from)) [
   | inl below ↦
       let no : nat_le from e.0 ≡ false = lt-leb from e.0 (ltb-true e.0 from below) in
       rw (all.0.code, no, below) (found_in from (at + length (canonical e)) r all.1
-      ∙ ap (λ n. head_found n (upper from r)) (omega (arith, length-append (canonical e) (canon (lower from r)))))
+      ∙ ap (λ n. head_found n (from_code from r)) (omega (arith, length-append (canonical e) (canon (below_code from r)))))
   | inr here ↦
       let yes : nat_le from (attr_code (canonical e)) ≡ true = ap (nat_le from) all.0.code ∙ le-leb from e.0 (ltb-false e.0 from here) in
       rw (yes, here) (ap (λ n. Some (found_attr n (canonical e))) (omega arith))
 ]
 
 -- the walk over a whole section
-pub found_is : (from : ℕ) (s : List ℕ) → IsCanonical s
-    → found_from from (attributes_from 0 s) ≡ head_found (length (canon (lower from (route_of s)))) (upper from (route_of s))
+pub found_from-canonical : (from : ℕ) (s : List ℕ) → IsCanonical s
+    → found_from from (attributes_from 0 s) ≡ head_found (length (canon (below_code from (route_of s)))) (from_code from (route_of s))
 unfolding walk_from
-found_is from s is =
+found_from-canonical from s is =
     let r = route_of s in
-    let all = route_spelled r is.route in
+    let all = IsSpelled-route r is.route in
     ap (λ t. found_from from (attributes_from 0 t)) (sym is.octets)
-    ∙ ap (λ (p : Pieces). found_from from (walk found_attr overrun 0 p.items p.rest)) (canon_cut r all)
+    ∙ ap (λ (p : Pieces). found_from from (walk found_attr overrun 0 p.items p.rest)) (cut-canon r all)
     ∙ found_in from 0 r all
-    ∙ ap (λ n. head_found n (upper from r)) (omega arith)
+    ∙ ap (λ n. head_found n (from_code from r)) (omega arith)
 
 head_at : (code at : ℕ) (r : Route) → AllByRecursion IsSpelled r → at_code code (head_found at r) ≡ front code r
 head_at code at [] all = refl
@@ -52,21 +52,22 @@ head_at code at (e ∷ r) all =
     rw (all.0.code) (ap (λ f. if e.0 == code then Some (record { flags = f; value = (found_attr at (canonical e)).value }) else None) all.0.flags
     ∙ ap (λ v. if e.0 == code then Some (record { flags = e.1.flags; value = v }) else None) all.0.value)
 
-upper_spelled : (code : ℕ) (r : Route) → AllByRecursion IsSpelled r → AllByRecursion IsSpelled (upper code r)
+upper_spelled : (code : ℕ) (r : Route) → AllByRecursion IsSpelled r → AllByRecursion IsSpelled (from_code code r)
 upper_spelled code [] all = tt
 upper_spelled code (e ∷ r) all = elim (cases_Bool (nat_lt e.0 code)) [
   | inl below ↦ rw below (upper_spelled code r all.1)
   | inr here ↦ rw here all
 ]
 
+-- the walk finds what the route has
 pub attribute_found : (code : ℕ) (s : List ℕ) → IsCanonical s → at_code code (found_from code (attributes_from 0 s)) ≡ attribute_at (route_of s) code
 attribute_found code s is =
     let r = route_of s in
-    ap (at_code code) (found_is code s is)
-    ∙ head_at code (length (canon (lower code r))) (upper code r) (upper_spelled code r (route_spelled r is.route))
-    ∙ sym (at_is code r is.route.rising)
+    ap (at_code code) (found_from-canonical code s is)
+    ∙ head_at code (length (canon (below_code code r))) (from_code code r) (upper_spelled code r (IsSpelled-route r is.route))
+    ∙ sym (value_at-from_code code r is.route.rising)
 
-head_code : (from at : ℕ) (r : Route) → AllByRecursion IsSpelled r → option_map (λ (f : FoundAttr). f.code) (head_found at (upper from r)) ≡ code_from r from
+head_code : (from at : ℕ) (r : Route) → AllByRecursion IsSpelled r → option_map (λ (f : FoundAttr). f.code) (head_found at (from_code from r)) ≡ code_from r from
 head_code from at [] all = refl
 head_code from at (e ∷ r) all = elim (cases_Bool (nat_lt e.0 from)) [
   | inl below ↦
@@ -77,18 +78,20 @@ head_code from at (e ∷ r) all = elim (cases_Bool (nat_lt e.0 from)) [
       rw (here, yes) (ap Some all.0.code)
 ]
 
+-- the walk finds the least code
 pub code_found : (from : ℕ) (s : List ℕ) → IsCanonical s → option_map (λ (f : FoundAttr). f.code) (found_from from (attributes_from 0 s)) ≡ code_from (route_of s) from
 code_found from s is =
-    ap (option_map (λ (f : FoundAttr). f.code)) (found_is from s is)
-    ∙ head_code from (length (canon (lower from (route_of s)))) (route_of s) (route_spelled (route_of s) is.route)
+    ap (option_map (λ (f : FoundAttr). f.code)) (found_from-canonical from s is)
+    ∙ head_code from (length (canon (below_code from (route_of s)))) (route_of s) (IsSpelled-route (route_of s) is.route)
 
-pub canon_parts : (l u : Route) → canon (l ++ u) ≡ canon l ++ canon u
-canon_parts [] u = refl
-canon_parts (e ∷ l) u = ap (λ s. canonical e ++ s) (canon_parts l u) ∙ sym (append_assoc (canonical e) (canon l) (canon u))
+-- the canonical section of two parts of a route
+pub canon-append : (l u : Route) → canon (l ++ u) ≡ canon l ++ canon u
+canon-append [] u = refl
+canon-append (e ∷ l) u = ap (λ s. canonical e ++ s) (canon-append l u) ∙ sym (append_assoc (canonical e) (canon l) (canon u))
 
 head_gap : (code len : ℕ) (l u : Route) → AllByRecursion IsSpelled u → len ≡ length (canon l ++ canon u)
     → (g : ℕ × ℕ) → g ≡ gap_of code len (head_found (length (canon l)) u)
-    → (take g.0 (canon l ++ canon u) ≡ canon l) × (drop g.1 (canon l ++ canon u) ≡ canon (past code u)) × (g.0 ≤ g.1) × (g.1 ≤ len)
+    → (take g.0 (canon l ++ canon u) ≡ canon l) × (drop g.1 (canon l ++ canon u) ≡ canon (past_code code u)) × (g.0 ≤ g.1) × (g.1 ≤ len)
 head_gap code len l [] all size g is =
     let whole : canon l ++ canon [] ≡ canon l = append-nil (canon l) in
     let first_is : g.0 ≡ length (canon l) = ap (λ (p : ℕ × ℕ). p.0) is ∙ size ∙ ap length whole in
@@ -119,17 +122,18 @@ head_gap code len l (e ∷ u) all size g is = elim (eqb_tells e.0 code) [
       )
 ]
 
-pub gap_is : (code : ℕ) (s : List ℕ) → IsCanonical s → IsGap code s (gap_of code (length s) (found_from code (attributes_from 0 s)))
-gap_is code s is =
+-- the gap of a code, by what the walk finds
+pub IsGap-gap_of : (code : ℕ) (s : List ℕ) → IsCanonical s → IsGap code s (gap_of code (length s) (found_from code (attributes_from 0 s)))
+IsGap-gap_of code s is =
     let r = route_of s in
-    let l = lower code r in
-    let u = upper code r in
-    let parts : canon l ++ canon u ≡ s = sym (canon_parts l u) ∙ ap canon (split_is code r) ∙ is.octets in
+    let l = below_code code r in
+    let u = from_code code r in
+    let parts : canon l ++ canon u ≡ s = sym (canon-append l u) ∙ ap canon (below_code-from_code code r) ∙ is.octets in
     let g = gap_of code (length s) (found_from code (attributes_from 0 s)) in
-    let h = head_gap code (length s) l u (upper_spelled code r (route_spelled r is.route)) (sym (ap length parts)) g (ap (gap_of code (length s)) (found_is code s is)) in
+    let h = head_gap code (length s) l u (upper_spelled code r (IsSpelled-route r is.route)) (sym (ap length parts)) g (ap (gap_of code (length s)) (found_from-canonical code s is)) in
     record {
       before = ap (take g.0) (sym parts) ∙ h.0;
-      behind = ap (drop g.1) (sym parts) ∙ h.1;
+      after = ap (drop g.1) (sym parts) ∙ h.1;
       order = h.2;
       inside = h.3;
     }
@@ -141,12 +145,12 @@ head_inside l (e ∷ u) f is =
     subst (λ (g : FoundAttr). g.at + length g.raw ≤ length (canon l ++ canon (e ∷ u))) same
     (omega (arith, length-append (canon l) (canonical e ++ canon u), length-append (canonical e) (canon u)))
 
--- what a walk finds stands inside
+-- an attribute that a walk finds is inside the section
 pub found_inside : (from : ℕ) (s : List ℕ) → IsCanonical s → IfSome (found_from from (attributes_from 0 s)) (λ f. f.at + length f.raw ≤ length s)
 found_inside from s is =
     let r = route_of s in
-    let parts : canon (lower from r) ++ canon (upper from r) ≡ s = sym (canon_parts (lower from r) (upper from r)) ∙ ap canon (split_is from r) ∙ is.octets in
+    let parts : canon (below_code from r) ++ canon (from_code from r) ≡ s = sym (canon-append (below_code from r) (from_code from r)) ∙ ap canon (below_code-from_code from r) ∙ is.octets in
     elim (found_from from (attributes_from 0 s)) as (λ o. found_from from (attributes_from 0 s) ≡ o → IfSome o (λ f. f.at + length f.raw ≤ length s)) [
       | None ↦ λ e. tt
-      | Some f ↦ λ e. subst (λ (t : List ℕ). f.at + length f.raw ≤ length t) parts (head_inside (lower from r) (upper from r) f (sym (found_is from s is) ∙ e))
+      | Some f ↦ λ e. subst (λ (t : List ℕ). f.at + length f.raw ≤ length t) parts (head_inside (below_code from r) (from_code from r) f (sym (found_from-canonical from s is) ∙ e))
     ] refl
