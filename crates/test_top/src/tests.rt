@@ -40,6 +40,7 @@ fn zeros(alloc: Global, count: usize) -> Result<Vec<u8>, Fail> {
 }
 
 // The words of a command line, and the status and the text that they are to give.
+#[derive(Clone, Copy)]
 struct Case<'a> {
     words: &'a [&'a str],
     status: Status,

@@ -50,7 +50,7 @@ mod tests {
     fn an_announcement_without_attributes_is_refused(rt: HostRuntime) -> Result<(), Fail> {
         let mut out = Buf::make(rt.alloc(), MAX_MESSAGE)?;
         refuse_update(&mut out, &[0, 0, 0, 0, 8, 10]);
-        assert_eq!(rt; out.as_slice(), &ORIGIN_MISSING);
+        assert_eq!(rt; out.as_slice(), ORIGIN_MISSING.as_slice());
         Ok(())
     }
 }
