@@ -102,7 +102,8 @@ impl Frames {
     // Keeps the body of the first message; the octets after it wait.
     fn remove_first(&mut self, len: u16)
         requires { message_size self.old.waits ≡ Some len }
-        ensures after { self.new ≡ record { waits = drop len self.old.waits; body = message_body (take len self.old.waits) } }
+        ensures after { let first = take len self.old.waits in
+            self.new ≡ record { waits = drop len self.old.waits; body = message_body first } }
         ensures sized { len ≡ HEADER + length self.new.body }
     {
         self.body = self.start + HEADER;
