@@ -1,9 +1,7 @@
 mod accepted;
-mod limits;
-mod maps;
-mod order;
-mod programs;
-mod top;
+mod counts;
+mod helpers;
+mod texts;
 
 use std::alloc::Global;
 use std::process::Abort;
@@ -11,7 +9,7 @@ use std::test::Fail;
 use xb_io::{MemShelf, MemSink};
 use xbgp_top::run;
 
-// What stands between two texts, and the fault that is printed of the whole: its kind, its part, its position and its slot.
+// A text, and what `check` prints of it: the lines of its maps and programs, or its fault (kind, part, position, slot).
 type Case = (&'static str, &'static str);
 
 const CONFIG: &str = "[speaker]\nas = 65000\nid = '192.0.2.254'\naddress = '192.0.2.254'\n";
@@ -31,41 +29,28 @@ fn check(alloc: Global, manifest: &[u8]) -> Result<(u8, String), Fail> {
     Ok((status.code(), String::from_str(alloc, written)?))
 }
 
-// A manifest is refused with this fault.
-fn expect_fault(rt: &(impl AllocGlobal + Abort), manifest: &[u8], fault: &str) -> Result<(), Fail> {
-    let (status, written) = check(rt.alloc(), manifest)?;
-    let line = format!(in rt.alloc(); "fault manifest {fault}\n")?;
-    assert_eq!(rt; written, line);
-    assert_eq!(rt; status, 6);
+// What is printed of a manifest, with its status.
+fn expect(rt: &(impl AllocGlobal + Abort), manifest: &[u8], want: &str) -> Result<(), Fail> {
+    let printed = check(rt.alloc(), manifest)?;
+    let wanted = if want.starts_with("maps") {
+        (
+            0,
+            format!(in rt.alloc(); "peers 0\nnetworks 0\n{want}\nend\n")?,
+        )
+    } else {
+        (6, format!(in rt.alloc(); "fault manifest {want}\n")?)
+    };
+    assert_eq!(rt; printed, wanted);
     Ok(())
 }
 
-// A manifest is accepted, with so many maps and programs.
-fn expect_good(
-    rt: &(impl AllocGlobal + Abort),
-    manifest: &[u8],
-    maps: u32,
-    programs: u32,
-) -> Result<(), Fail> {
-    let (status, written) = check(rt.alloc(), manifest)?;
-    let lines = format!(in rt.alloc();
-        "peers 0\nnetworks 0\nmaps {maps}\nprograms {programs}\nend\n"
-    )?;
-    assert_eq!(rt; written, lines);
-    assert_eq!(rt; status, 0);
-    Ok(())
-}
-
-// Each case between the two texts is refused with its fault.
-fn expect_faults(
-    rt: &(impl AllocGlobal + Abort),
-    before: &str,
-    cases: &[Case],
-    after: &str,
-) -> Result<(), Fail> {
-    for (text, fault) in cases {
-        let manifest = format!(in rt.alloc(); "{before}{text}{after}")?;
-        expect_fault(rt, manifest.as_bytes(), fault)?;
+#[test]
+fn texts_are_judged(rt: HostRuntime) -> Result<(), Fail> {
+    for (before, cases, after) in texts::TABLES {
+        for (text, want) in cases {
+            let manifest = format!(in rt.alloc(); "{before}{text}{after}")?;
+            expect(&rt, manifest.as_bytes(), want)?;
+        }
     }
-    Ok(())
+    expect(&rt, &[b'#', 0xff, b'\n'], "text top 0 0")
 }
