@@ -40,7 +40,8 @@ walk_end len (Err o ∷ steps) = o.at
 -- the law: the attributes of a section, joined, are its octets up to an overrun
 abbrev pub attributes_join : Type 0
 attributes_join =
-    (section : List ℕ) → let steps = attributes_from 0 section in raws steps ≡ take (walk_end (length section) steps) section
+    (section : List ℕ)
+    → let steps = attributes_from 0 section in raws steps ≡ take (walk_end (length section) steps) section
 
 -- the section has the attribute's octets at its offset, and no whole attribute at the offset of an overrun
 abbrev pub MatchesSection : List ℕ → Result FoundAttr Overrun → Type 0

@@ -100,7 +100,8 @@ table_lines table = flat_map heard_line table
 
 -- the table that a stream announces, or the offset at which it is refused
 abbrev pub heard_outcome : List ℕ → Outcome (List ℕ)
-heard_outcome octets = elim (heard octets) [ Ok table ↦ Ok (table_lines table ++ end_line) | Err at ↦ Err (BadStream at) ]
+heard_outcome octets =
+    elim (heard octets) [ Ok table ↦ Ok (table_lines table ++ end_line) | Err at ↦ Err (BadStream at) ]
 
 -- the messages of a stream, each with its offset
 abbrev pub messages_of : List ℕ → List FoundMessage

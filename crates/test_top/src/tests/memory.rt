@@ -2,7 +2,8 @@ use super::{ROUTE_TEXT, answer, shelf_of, update};
 use std::test::Fail;
 use xbgp_top::Status;
 
-// If an allocation is made to fail, the set-up fails by itself, or the answer is want of memory with a front of the text.
+// If an allocation is made to fail, the set-up fails by itself, or the answer is want of memory with a front of the
+// text.
 #[test]
 fn want_of_memory_leaves_a_front(rt: HostRuntime) -> Result<(), Fail> {
     let alloc = rt.alloc();
