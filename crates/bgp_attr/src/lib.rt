@@ -4,8 +4,8 @@
 //! offset at which it begins; it ends at the section's end, or at the first attribute that runs past it. What a known
 //! attribute must be is one table with a row for each code, which [`attr_rule`] applies to a single attribute: first
 //! its flags, then its length, then its value. [`path_ok`] judges the value of an AS_PATH, whose segments bgp_path
-//! reads. [`attr_rule4`] and [`path_ok4`] do the same with AS numbers of four octets. Nothing is copied and no memory is
-//! taken.
+//! reads. [`attr_rule4`] and [`path_ok4`] do the same with AS numbers of four octets. Nothing is copied and no memory
+//! is taken.
 //!
 //! Whether a section as a whole is valid, with no code twice and none missing, is bgp_check's; routes that can be
 //! edited are xbgp_view's. The words of both are defined here: `specs/Attributes` has the grammar of a section,
