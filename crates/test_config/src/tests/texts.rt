@@ -114,7 +114,10 @@ const IN_RANGE: [Case; 10] = [
     ("networks = ['0.0.0.0/0', '255.255.255.255/32']", "good"),
     ("networks = ['10.0.0.0/8', '10.0.0.0/9']", "good"),
     ("[[peer]]\nas = 1\naddress = '1.0.0.0'", "good"),
-    ("[[peer]]\nas = 4294967295\naddress = '223.255.255.255'", "good"),
+    (
+        "[[peer]]\nas = 4294967295\naddress = '223.255.255.255'",
+        "good",
+    ),
 ];
 
 const NETWORKS: [Case; 10] = [
