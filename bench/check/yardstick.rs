@@ -64,7 +64,7 @@ fn tables<'a, 'd>(document: &'d Document<'a>, name: &str) -> &'d [Table<'a>] {
 fn counts_of_config(text: &str) -> Option<(usize, usize)> {
     let document = read(text)?;
     let speaker = document.tables.get("speaker")?.first()?;
-    number(speaker, "as", 1, 65535)?;
+    number(speaker, "as", 1, u32::MAX.into())?;
     number(speaker, "hold", 0, 65535)?;
     self::text(speaker, "id")?.parse::<Ipv4Addr>().ok()?;
     let mut seen = HashSet::new();
@@ -73,7 +73,7 @@ fn counts_of_config(text: &str) -> Option<(usize, usize)> {
     }
     let mut addresses = HashSet::from([host(speaker, "address")?]);
     for peer in tables(&document, "peer") {
-        number(peer, "as", 1, 65535)?;
+        number(peer, "as", 1, u32::MAX.into())?;
         addresses.insert(host(peer, "address")?).then_some(())?;
     }
     let mut hops = HashSet::new();

@@ -126,24 +126,25 @@ pub fn section(attributes: &[Attribute]) -> Vec<u8> {
     section
 }
 
-/// An AS_PATH: a sequence, and at times a set behind it.
-fn path(draws: &mut Draws) -> Vec<u8> {
+/// An AS_PATH with AS numbers of so many octets: a sequence, and at times a set behind it.
+fn path(draws: &mut Draws, width: u32) -> Vec<u8> {
     let hops = draws.between(2, 12);
     let mut value = vec![2, hops as u8];
-    value.extend(draws.octets(2 * hops));
+    value.extend(draws.octets(width * hops));
     if draws.one_in(8) {
         let members = draws.between(2, 5);
         value.extend([1, members as u8]);
-        value.extend(draws.octets(2 * members));
+        value.extend(draws.octets(width * members));
     }
     value
 }
 
-/// The attributes of a route as they come from a large network: communities take most of the room.
-pub fn attributes(draws: &mut Draws) -> Vec<Attribute> {
+/// The attributes of a route as they come from a large network, with AS numbers of so many octets: communities take
+/// most of the room.
+pub fn attributes(draws: &mut Draws, width: u32) -> Vec<Attribute> {
     let mut attributes = vec![
         Attribute::new(0x40, 1, [draws.below(3) as u8]),
-        Attribute::new(0x40, 2, path(draws)),
+        Attribute::new(0x40, 2, path(draws, width)),
         Attribute::new(0x40, 3, [192, 0, 2, draws.below(256) as u8]),
     ];
     if draws.one_in(2) {
@@ -151,7 +152,7 @@ pub fn attributes(draws: &mut Draws) -> Vec<Attribute> {
     }
     if draws.one_in(8) {
         attributes.push(Attribute::new(0x40, 6, []));
-        attributes.push(Attribute::new(0xc0, 7, draws.octets(6)));
+        attributes.push(Attribute::new(0xc0, 7, draws.octets(width + 4)));
     }
     // Communities; one route in sixteen has so many that the length takes two octets.
     let communities = if draws.one_in(16) {

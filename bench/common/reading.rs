@@ -224,14 +224,21 @@ fn read_file(name: &str) -> io::Result<Vec<u8>> {
 /// A job writes its text for a stream; before it returns that the stream is refused, it writes nothing.
 type Job = fn(&[u8], &mut Output) -> Result<(), Fault>;
 
+/// A command's word, and what it does.
+type Command<'a> = (&'a str, Job);
+
 /// Does what the words say, and returns the exit status; an error is one of writing.
-fn answer(words: &[String], command: &str, job: Job, out: &mut Output) -> io::Result<u8> {
-    let name = match words {
-        [first, name] if first == command => name,
-        _ => {
-            out.text.extend_from_slice(b"fault usage\n");
-            return Ok(2);
-        }
+fn answer(words: &[String], commands: &[Command<'_>], out: &mut Output) -> io::Result<u8> {
+    let named = match words {
+        [first, name] => commands
+            .iter()
+            .find(|(word, _)| first == word)
+            .map(|(_, job)| (job, name)),
+        _ => None,
+    };
+    let Some((job, name)) = named else {
+        out.text.extend_from_slice(b"fault usage\n");
+        return Ok(2);
     };
     let Ok(octets) = read_file(name) else {
         return Ok(3);
@@ -255,8 +262,8 @@ fn answer(words: &[String], command: &str, job: Job, out: &mut Output) -> io::Re
     }
 }
 
-/// The whole of a program with one command of the form `COMMAND FILE`.
-pub fn run(command: &str, job: Job) -> ExitCode {
+/// The whole of a program with commands of the form `COMMAND FILE`.
+pub fn run(commands: &[Command<'_>]) -> ExitCode {
     // A word that isn't UTF-8 is not a word of a command.
     let words: Result<Vec<String>, OsString> =
         env::args_os().skip(1).map(OsString::into_string).collect();
@@ -264,7 +271,7 @@ pub fn run(command: &str, job: Job) -> ExitCode {
         text: Vec::with_capacity(2 * PAGE),
         out: io::stdout().lock(),
     };
-    let status = answer(&words.unwrap_or_default(), command, job, &mut out)
+    let status = answer(&words.unwrap_or_default(), commands, &mut out)
         .and_then(|status| out.flush().map(|()| status))
         .unwrap_or(4);
     ExitCode::from(status)

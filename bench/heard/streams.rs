@@ -36,7 +36,7 @@ fn dense_update(draws: &mut Draws, known: &mut Vec<Prefix>) -> Vec<u8> {
     }
     update(
         &spelled(&withdrawn),
-        &section(&attributes(draws)),
+        &section(&attributes(draws, 2)),
         &spelled(&announced),
     )
 }

@@ -71,5 +71,5 @@ fn print_heard(stream: &[u8], out: &mut Output) -> Result<(), Fault> {
 }
 
 fn main() -> ExitCode {
-    run("heard", print_heard)
+    run(&[("heard", print_heard)])
 }

@@ -2,7 +2,8 @@
 //! `streams mixed OCTETS` one of UPDATEs with many attributes, one message in twenty of another kind, and one in twenty an
 //! UPDATE with a fault, which are all faults in turn;
 //! `streams short OCTETS` one of messages with next to no contents;
-//! `streams crowded OCTETS` one of clean UPDATEs with more than two hundred attributes each.
+//! `streams crowded OCTETS` one of clean UPDATEs with more than two hundred attributes each;
+//! `streams wide OCTETS` one like the first, with AS numbers of four octets in place of two.
 
 #[path = "../common/making.rs"]
 mod making;
@@ -25,6 +26,8 @@ enum Fault {
     /// One more attribute, whose code came before.
     Doubled,
     Missing(u8),
+    /// An AGGREGATOR with an AS number of the other width.
+    Aggregator,
     /// An attribute, given as flags, code and value, in place of the one of its code.
     Attribute(u8, u8, &'static [u8]),
 }
@@ -54,7 +57,7 @@ const FAULTS: [Fault; 33] = [
     Fault::Attribute(0x80, 4, &[0, 0, 0, 0, 1]),
     Fault::Attribute(0x40, 5, &[100]),
     Fault::Attribute(0x40, 6, &[0]),
-    Fault::Attribute(0xc0, 7, &[0, 0, 0xfd, 0xe9, 192, 0, 2, 1]),
+    Fault::Aggregator,
     // An ORIGIN of no meaning.
     Fault::Attribute(0x40, 1, &[3]),
     // Paths: a type that is none, none in a segment, fewer than it says, a type alone; and so behind a good segment.
@@ -72,8 +75,8 @@ const FAULTS: [Fault; 33] = [
 ];
 
 /// The attributes of a route, with LOCAL_PREF and with some that few know.
-fn many_attributes(draws: &mut Draws) -> Vec<Attribute> {
-    let mut attributes = attributes(draws);
+fn many_attributes(draws: &mut Draws, width: u32) -> Vec<Attribute> {
+    let mut attributes = attributes(draws, width);
     attributes.push(Attribute::new(0x40, 5, draws.octets(4)));
     for code in 64..64 + draws.below(9) as u8 {
         let len = draws.between(0, 12);
@@ -96,10 +99,10 @@ fn put(attributes: &mut Vec<Attribute>, other: Attribute) {
     }
 }
 
-/// An UPDATE with that fault alone, or a clean one.
-fn any_update(draws: &mut Draws, fault: Option<Fault>) -> Vec<u8> {
+/// An UPDATE with that fault alone, or a clean one; AS numbers have so many octets.
+fn any_update(draws: &mut Draws, width: u32, fault: Option<Fault>) -> Vec<u8> {
     let mut withdrawn = prefixes(draws, 0, 4);
-    let mut attributes = many_attributes(draws);
+    let mut attributes = many_attributes(draws, width);
     let mut announced = prefixes(draws, 1, 12);
     let mut overrun: &[u8] = &[];
     match fault {
@@ -109,6 +112,11 @@ fn any_update(draws: &mut Draws, fault: Option<Fault>) -> Vec<u8> {
         Some(Fault::Overrun) => overrun = &[0xc0, 99, 2, 1],
         Some(Fault::Doubled) => attributes.push(Attribute::new(0x40, 1, [0])),
         Some(Fault::Missing(code)) => attributes.retain(|one| one.code != code),
+        Some(Fault::Aggregator) => {
+            // AS 65001 in four octets, of which the last two are it in two.
+            let value = &[0, 0, 0xfd, 0xe9, 192, 0, 2, 1][width as usize - 2..];
+            put(&mut attributes, Attribute::new(0xc0, 7, value));
+        }
         Some(Fault::Attribute(flags, code, value)) => {
             put(&mut attributes, Attribute::new(flags, code, value));
         }
@@ -130,13 +138,13 @@ fn other_kind(draws: &mut Draws) -> Vec<u8> {
     }
 }
 
-fn mixed(most: usize) -> Vec<u8> {
+fn mixed(most: usize, width: u32) -> Vec<u8> {
     let mut draws = Draws(1);
     let mut faults = FAULTS.into_iter().cycle();
     filled(most, || match draws.below(20) {
-        0 => any_update(&mut draws, faults.next()),
+        0 => any_update(&mut draws, width, faults.next()),
         1 => other_kind(&mut draws),
-        _ => any_update(&mut draws, None),
+        _ => any_update(&mut draws, width, None),
     })
 }
 
@@ -152,7 +160,7 @@ fn short(most: usize) -> Vec<u8> {
 fn crowded(most: usize) -> Vec<u8> {
     let mut draws = Draws(1);
     filled(most, || {
-        let mut attributes = attributes(&mut draws);
+        let mut attributes = attributes(&mut draws, 2);
         for code in 33..240 {
             let len = draws.between(0, 12);
             attributes.push(Attribute::new(0xc0, code, draws.octets(len)));
@@ -164,14 +172,16 @@ fn crowded(most: usize) -> Vec<u8> {
 fn main() -> ExitCode {
     let words: Vec<String> = env::args().skip(1).collect();
     let words: Vec<&str> = words.iter().map(String::as_str).collect();
-    let stream = match words[..] {
-        ["mixed", octets] => octets.parse().ok().map(mixed),
-        ["short", octets] => octets.parse().ok().map(short),
-        ["crowded", octets] => octets.parse().ok().map(crowded),
+    let make: Option<fn(usize) -> Vec<u8>> = match words[..] {
+        ["mixed", _] => Some(|most| mixed(most, 2)),
+        ["short", _] => Some(short),
+        ["crowded", _] => Some(crowded),
+        ["wide", _] => Some(|most| mixed(most, 4)),
         _ => None,
     };
+    let stream = make.and_then(|make| words[1].parse().ok().map(make));
     write(
         stream,
-        "streams mixed OCTETS | streams short OCTETS | streams crowded OCTETS",
+        "streams mixed OCTETS | streams short OCTETS | streams crowded OCTETS | streams wide OCTETS",
     )
 }

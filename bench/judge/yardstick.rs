@@ -1,4 +1,5 @@
-//! The yardstick of `xbgp judge FILE`: the same job in plain Rust, with the same texts and statuses.
+//! The yardstick of `xbgp judge FILE` and `xbgp judge4 FILE`: the same jobs in plain Rust, with the same texts and
+//! statuses. A width is the octets of an AS number.
 
 #[path = "../common/reading.rs"]
 mod reading;
@@ -71,12 +72,12 @@ fn take_attribute<'a>(section: &mut &'a [u8]) -> Option<Attribute<'a>> {
 }
 
 /// Whether the value of AS_PATH is segments, each a set or a sequence of at least one AS number.
-fn path_is_good(mut value: &[u8]) -> bool {
+fn path_is_good(mut value: &[u8], width: usize) -> bool {
     while !value.is_empty() {
         let &[1 | 2, count @ 1..=255, ref rest @ ..] = value else {
             return false;
         };
-        let Some(rest) = rest.get(2 * usize::from(count)..) else {
+        let Some(rest) = rest.get(width * usize::from(count)..) else {
             return false;
         };
         value = rest;
@@ -85,7 +86,7 @@ fn path_is_good(mut value: &[u8]) -> bool {
 }
 
 /// What is wrong with the attribute by itself.
-fn attribute_fault(attribute: &Attribute<'_>) -> Option<Subcode> {
+fn attribute_fault(attribute: &Attribute<'_>, width: usize) -> Option<Subcode> {
     let Attribute { code, value, .. } = *attribute;
     let flags = attribute.flags & 0xe0;
     let (flags_fit, len) = match code {
@@ -94,7 +95,7 @@ fn attribute_fault(attribute: &Attribute<'_>) -> Option<Subcode> {
         NEXT_HOP | LOCAL_PREF => (flags == 0x40, Some(4)),
         MULTI_EXIT_DISC => (flags == 0x80, Some(4)),
         ATOMIC_AGGREGATE => (flags == 0x40, Some(0)),
-        AGGREGATOR => (flags & 0xc0 == 0xc0, Some(6)),
+        AGGREGATOR => (flags & 0xc0 == 0xc0, Some(width + 4)),
         _ if flags & 0x80 != 0 => return None,
         _ => return Some(Subcode::UnrecognizedWellKnown),
     };
@@ -107,7 +108,7 @@ fn attribute_fault(attribute: &Attribute<'_>) -> Option<Subcode> {
     match (code, value) {
         (ORIGIN, [3..=255]) => Some(Subcode::InvalidOrigin),
         (NEXT_HOP, [0 | 127 | 224..=255, ..]) => Some(Subcode::InvalidNextHop),
-        (AS_PATH, path) if !path_is_good(path) => Some(Subcode::MalformedPath),
+        (AS_PATH, path) if !path_is_good(path, width) => Some(Subcode::MalformedPath),
         _ => None,
     }
 }
@@ -129,7 +130,7 @@ impl Codes {
 }
 
 /// Judges the section. A section that can't be read to its end counts before any fault of an attribute by itself.
-fn judge_section<'a>(mut section: &'a [u8], announces: bool) -> Result<(), Notice<'a>> {
+fn judge_section(mut section: &[u8], announces: bool, width: usize) -> Result<(), Notice<'_>> {
     let mut codes = Codes([0; 4]);
     let mut fault = None;
     while !section.is_empty() {
@@ -137,7 +138,7 @@ fn judge_section<'a>(mut section: &'a [u8], announces: bool) -> Result<(), Notic
             .filter(|attribute| codes.insert(attribute.code))
             .ok_or(Notice::bare(Subcode::MalformedAttributeList))?;
         if fault.is_none() {
-            fault = attribute_fault(&attribute).map(|subcode| Notice {
+            fault = attribute_fault(&attribute, width).map(|subcode| Notice {
                 subcode,
                 data: match subcode {
                     Subcode::MalformedPath => &[],
@@ -167,15 +168,15 @@ fn judge_prefixes(octets: &[u8]) -> Result<(), Notice<'static>> {
     }
 }
 
-fn judge(body: &[u8]) -> Result<(), Notice<'_>> {
+fn judge(body: &[u8], width: usize) -> Result<(), Notice<'_>> {
     let update = Update::new(body).ok_or(Notice::bare(Subcode::MalformedAttributeList))?;
     judge_prefixes(update.withdrawn)?;
-    judge_section(update.section, !update.nlri.is_empty())?;
+    judge_section(update.section, !update.nlri.is_empty(), width)?;
     judge_prefixes(update.nlri)
 }
 
-fn push_verdict(text: &mut Vec<u8>, body: &[u8]) {
-    match judge(body) {
+fn push_verdict(text: &mut Vec<u8>, body: &[u8], width: usize) {
+    match judge(body, width) {
         Ok(()) => text.extend_from_slice(b"clean"),
         Err(Notice { subcode, data }) => {
             text.extend_from_slice(b"notice 3 ");
@@ -186,7 +187,7 @@ fn push_verdict(text: &mut Vec<u8>, body: &[u8]) {
     }
 }
 
-fn print_judged(stream: &[u8], out: &mut Output) -> Result<(), Fault> {
+fn print_judged<const WIDTH: usize>(stream: &[u8], out: &mut Output) -> Result<(), Fault> {
     // A stream that is refused has no other line.
     Messages::new(stream).try_for_each(|message| message.map(drop))?;
     for message in Messages::new(stream) {
@@ -194,7 +195,7 @@ fn print_judged(stream: &[u8], out: &mut Output) -> Result<(), Fault> {
         push_decimal(&mut out.text, message.at as u64);
         out.text.push(b' ');
         if message.kind == UPDATE {
-            push_verdict(&mut out.text, message.body);
+            push_verdict(&mut out.text, message.body, WIDTH);
         } else {
             out.text.extend_from_slice(b"other");
         }
@@ -204,5 +205,5 @@ fn print_judged(stream: &[u8], out: &mut Output) -> Result<(), Fault> {
 }
 
 fn main() -> ExitCode {
-    run("judge", print_judged)
+    run(&[("judge", print_judged::<2>), ("judge4", print_judged::<4>)])
 }

@@ -6,6 +6,10 @@ use Rattle.xb_words.specs.Octets.{two_at, four_at, two_octets, four_octets}
 use Rattle.xb_words.specs.Cut.{cut}
 use Rattle.bgp_attr.specs.declared.segments.TheConstants.{AS_SET, AS_SEQUENCE, MAX_NUMBERS}
 
+-- the octets of an AS number: two (RFC 4271), or four (RFC 6793)
+abbrev pub width_of : Bool → ℕ
+width_of wide = if wide then 4 else 2
+
 -- the length of the segment at the front, its type and count included; None if no whole segment is there
 abbrev pub segment_size : ℕ → List ℕ → Option ℕ
 segment_size w s =

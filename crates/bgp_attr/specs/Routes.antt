@@ -20,9 +20,10 @@ pub record Attribute : Type 0 where
 abbrev pub Route : Type 0
 Route = List (ℕ × Attribute)
 
--- the octets of an AS number in a route that the speaker keeps
+-- the octets of an AS number in a route that the speaker keeps, whatever the form of the session that it came from (RFC
+-- 6793, section 3)
 abbrev pub as_width : ℕ
-as_width = 2
+as_width = 4
 
 -- the flags that a route keeps: optional, transitive, partial
 abbrev pub kept_flags : ℕ → ℕ

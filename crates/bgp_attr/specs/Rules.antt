@@ -2,7 +2,8 @@
 use Rattle.std.specs.Prelude.{ℕ, ◌+◌, Bool, true, List, length, slice_index, Option, Some, None, nat_lt, nat_le, ◌==◌, ◌&&◌, ◌||◌, not, bit_and, if◌then◌else◌}
 use Rattle.bgp_attr.specs.declared.codes.TheConstants.{ORIGIN, AS_PATH, NEXT_HOP, MULTI_EXIT_DISC, LOCAL_PREF, ATOMIC_AGGREGATE, AGGREGATOR}
 use Rattle.bgp_attr.specs.declared.flags.TheConstants.{OPTIONAL, WELL_KNOWN, OPTIONAL_TRANSITIVE, PARTIAL_TRANSITIVE}
-use Rattle.bgp_attr.specs.declared.rule.TheConstants.{INCOMPLETE, FOUR_OCTETS, THIS_NETWORK, LOOPBACK, MULTICAST}
+use Rattle.bgp_attr.specs.declared.path.TheConstants.{FOUR_OCTETS}
+use Rattle.bgp_attr.specs.declared.rule.TheConstants.{INCOMPLETE, THIS_NETWORK, LOOPBACK, MULTICAST}
 use Rattle.bgp_attr.specs.declared.rule.AttrFault.{AttrFault}
 use Rattle.bgp_attr.specs.declared.rule.AttrFault.TheVariants.{Unrecognized, Flags, Length, Origin, NextHop, Path}
 use Rattle.bgp_attr.specs.Routes.{kept_flags}

@@ -1,4 +1,4 @@
-//! The codes of path attributes (RFC 4271, section 5.1).
+//! The codes of path attributes (RFC 4271, section 5.1; RFC 6793, section 3).
 
 pub const ORIGIN: u8 = 1;
 
@@ -13,3 +13,9 @@ pub const LOCAL_PREF: u8 = 5;
 pub const ATOMIC_AGGREGATE: u8 = 6;
 
 pub const AGGREGATOR: u8 = 7;
+
+/// The AS_PATH with AS numbers of four octets, as a session with two passes it on.
+pub const AS4_PATH: u8 = 17;
+
+/// The AGGREGATOR with an AS number of four octets, as a session with two passes it on.
+pub const AS4_AGGREGATOR: u8 = 18;

@@ -4,8 +4,10 @@ ghost use Rattle.bgp_attr.specs.Paths.{segment_size, path_ok as is_path_of};
 
 use crate::segments::{AS_SEQUENCE, AS_SET};
 
-// The octets of an AS number (RFC 4271, section 4.3).
+// Lengths of fields: an AS number has two octets (RFC 4271, section 4.3) or four (RFC 6793), an IPv4 address has four.
 pub(crate) const TWO_OCTETS: usize = 2;
+
+pub(crate) const FOUR_OCTETS: usize = 4;
 
 // The length of the segment at the front, its type and count included. None if no whole segment is there.
 fn size_of(octets: &[u8], width: usize) -> Option<usize>
@@ -46,4 +48,11 @@ pub fn path_ok(value: &[u8]) -> bool
     ensures { result ≡ is_path_of 2 value.now }
 {
     is_path(value, TWO_OCTETS)
+}
+
+/// The same with AS numbers of four octets (RFC 6793, section 4.1).
+pub fn path_ok4(value: &[u8]) -> bool
+    ensures { result ≡ is_path_of 4 value.now }
+{
+    is_path(value, FOUR_OCTETS)
 }

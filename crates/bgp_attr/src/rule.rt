@@ -6,13 +6,10 @@ use crate::codes::{
     AGGREGATOR, AS_PATH, ATOMIC_AGGREGATE, LOCAL_PREF, MULTI_EXIT_DISC, NEXT_HOP, ORIGIN,
 };
 use crate::flags::{KEPT, OPTIONAL, OPTIONAL_TRANSITIVE, PARTIAL_TRANSITIVE, WELL_KNOWN};
-use crate::path::{TWO_OCTETS, is_path};
+use crate::path::{FOUR_OCTETS, TWO_OCTETS, is_path};
 
 // The greatest value of ORIGIN: 0 is IGP, 1 is EGP (RFC 4271, section 4.3).
 const INCOMPLETE: u8 = 2;
-
-// The length of an IPv4 address, and of a number of four octets.
-const FOUR_OCTETS: usize = 4;
 
 // First octets of addresses that are no host's: "this" network, loopback, and from multicast on (RFC 6890).
 const THIS_NETWORK: u8 = 0;
@@ -116,4 +113,11 @@ pub fn attr_rule(code: u8, flags: u8, value: &[u8]) -> Option<AttrFault>
     ensures { result ≡ attr_fault 2 code flags value.now }
 {
     fault_of(code, flags, value, TWO_OCTETS)
+}
+
+/// The same with AS numbers of four octets, so that an AGGREGATOR has eight (RFC 6793, section 4.1).
+pub fn attr_rule4(code: u8, flags: u8, value: &[u8]) -> Option<AttrFault>
+    ensures { result ≡ attr_fault 4 code flags value.now }
+{
+    fault_of(code, flags, value, FOUR_OCTETS)
 }

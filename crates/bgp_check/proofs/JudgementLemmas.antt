@@ -45,23 +45,23 @@ unfolding walk_from
 all_whole_prefixes octets = all_whole-walk 0 (cut prefix_size octets).items (cut prefix_size octets).rest
 
 -- the check of an attribute that a walk returned
-abbrev pub found_check : FoundAttr → Option Notification
-found_check a = option_map (attr_notice a.raw) (attr_fault 2 a.code a.flags a.value)
+abbrev pub found_check : ℕ → FoundAttr → Option Notification
+found_check w a = option_map (attr_notice a.raw) (attr_fault w a.code a.flags a.value)
 
 -- the first fault of the attributes to come
-abbrev pub first_found : List (Result FoundAttr Overrun) → Option Notification
-first_found [] = None
-first_found (Err o ∷ steps) = None
-first_found (Ok a ∷ steps) = or_else (found_check a) (first_found steps)
+abbrev pub first_found : ℕ → List (Result FoundAttr Overrun) → Option Notification
+first_found w [] = None
+first_found w (Err o ∷ steps) = None
+first_found w (Ok a ∷ steps) = or_else (found_check w a) (first_found w steps)
 
-first_found-walk : (at : ℕ) (items : List (List ℕ)) (rest : List ℕ) → first_found (walk found_attr overrun at items rest) ≡ first_check (map (attribute_check 2) items)
-first_found-walk at [] [] = refl
-first_found-walk at [] (b ∷ rest) = refl
-first_found-walk at (x ∷ items) rest = ap (or_else (attribute_check 2 x)) (first_found-walk (at + length x) items rest)
+first_found-walk : (w at : ℕ) (items : List (List ℕ)) (rest : List ℕ) → first_found w (walk found_attr overrun at items rest) ≡ first_check (map (attribute_check w) items)
+first_found-walk w at [] [] = refl
+first_found-walk w at [] (b ∷ rest) = refl
+first_found-walk w at (x ∷ items) rest = ap (or_else (attribute_check w x)) (first_found-walk w (at + length x) items rest)
 
-pub first_found_section : (section : List ℕ) → first_found (attributes_from 0 section) ≡ first_check (map (attribute_check 2) (attributes section))
+pub first_found_section : (w : ℕ) (section : List ℕ) → first_found w (attributes_from 0 section) ≡ first_check (map (attribute_check w) (attributes section))
 unfolding walk_from
-first_found_section section = first_found-walk 0 (cut attribute_size section).items (cut attribute_size section).rest
+first_found_section w section = first_found-walk w 0 (cut attribute_size section).items (cut attribute_size section).rest
 
 -- the codes of the attributes to come, before those that came; None if one runs past the end or came before
 abbrev pub gathered : List (Result FoundAttr Overrun) → List ℕ → Option (List ℕ)

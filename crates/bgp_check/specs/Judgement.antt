@@ -1,12 +1,12 @@
 -- The first fault of an UPDATE (RFC 4271, section 6.3; the order of the checks and the check of withdrawn prefixes are
 -- this project's own), with AS numbers of w octets.
-use Rattle.std.specs.Prelude.{ℕ, Bool, true, false, List, [], ◌∷◌, length, map, find, Option, Some, None, option_map, is_none, ◌==◌, ◌||◌, not, if◌then◌else◌}
+use Rattle.std.specs.Prelude.{ℕ, Bool, true, false, List, [], ◌∷◌, length, map, find, Option, Some, None, option_map, is_none, ◌==◌, ◌&&◌, ◌||◌, not, if◌then◌else◌}
 use Rattle.std.specs.List.{list_any}
 use Rattle.xb_words.specs.Optional.{or_else}
 use Rattle.xb_wire.specs.declared.numbers.TheConstants.{UPDATE_MESSAGE_ERROR, MALFORMED_ATTRIBUTE_LIST, UNRECOGNIZED_WELL_KNOWN_ATTRIBUTE, MISSING_WELL_KNOWN_ATTRIBUTE, ATTRIBUTE_FLAGS_ERROR, ATTRIBUTE_LENGTH_ERROR, INVALID_ORIGIN, INVALID_NEXT_HOP, INVALID_NETWORK_FIELD, MALFORMED_AS_PATH}
 use Rattle.xb_wire.specs.Messages.{Notification, notification, Update, lengths_fit, update_parts}
 use Rattle.xb_values.specs.Prefixes.{are_prefixes}
-use Rattle.bgp_attr.specs.declared.codes.TheConstants.{ORIGIN, AS_PATH, NEXT_HOP}
+use Rattle.bgp_attr.specs.declared.codes.TheConstants.{ORIGIN, AS_PATH, NEXT_HOP, AS4_PATH, AS4_AGGREGATOR}
 use Rattle.bgp_attr.specs.declared.rule.AttrFault.{AttrFault}
 use Rattle.bgp_attr.specs.declared.rule.AttrFault.TheVariants.{Unrecognized, Flags, Length, Origin, NextHop, Path}
 use Rattle.bgp_attr.specs.Attributes.{attributes, is_whole, attr_flags, attr_code, codes_of, attr_value}
@@ -89,6 +89,9 @@ unfoldable pub judge : ℕ → List ℕ → Option Notification
 judge w body =
     if lengths_fit body then judge_parts w (update_parts body) else Some (update_error MALFORMED_ATTRIBUTE_LIST [])
 
--- a section that passes all checks, those for missing attributes included
-abbrev pub is_clean : ℕ → List ℕ → Bool
-is_clean w section = is_none (judge_section w section true)
+-- a section that passes all checks with AS numbers of four octets, those for missing attributes included, and has
+-- neither AS4_PATH nor AS4_AGGREGATOR, which are not sent in a session with such numbers (RFC 6793, section 4.1)
+abbrev pub is_clean : List ℕ → Bool
+is_clean section =
+    let codes = codes_of section in
+    is_none (judge_section 4 section true) && not (has_code codes AS4_PATH) && not (has_code codes AS4_AGGREGATOR)

@@ -13,13 +13,15 @@ use Rattle.bgp_fsm.specs.declared.Timer.TheVariants as timers
 use Rattle.bgp_fsm.specs.declared.session.TheConstants.{OPEN_WAIT}
 use Rattle.xb_wire.specs.declared.numbers.TheConstants.{CEASE, FSM_ERROR, HOLD_TIMER_EXPIRED, UNSPECIFIC}
 
--- the state, the due times of both timers, the hold time in use, and the peer's identifier
+-- the state, the due times of both timers, the hold time in use, the peer's identifier, and whether AS numbers have
+-- four octets (RFC 6793, section 3)
 pub record Session : Type 0 where
   pub state : State
   pub hold_at : Option ℕ
   pub keepalive_at : Option ℕ
   pub hold : ℕ
   pub id : ℕ
+  pub wide : Bool
 
 -- what a session does, and the session after it
 pub record Reaction : Type 0 where
@@ -33,7 +35,7 @@ pub record Owned : Type 0 where
 
 -- a session before its first start: idle, with no timer set
 abbrev pub start_session : Session
-start_session = record { state = Idle; hold_at = None; keepalive_at = None; hold = 0; id = 0 }
+start_session = record { state = Idle; hold_at = None; keepalive_at = None; hold = 0; id = 0; wide = false }
 
 -- the states in which messages of the peer are read (this project's own word)
 abbrev pub is_live : State → Bool
@@ -83,8 +85,8 @@ open_sent now s = record {
 
 -- the hold time in use is the smaller of the two, and a KEEPALIVE is due after a third of it (RFC 4271, sections 4.2
 -- and 4.4)
-abbrev pub open_confirm : ℕ → ℕ → ℕ → ℕ → Session → Reaction
-open_confirm own hold id now s =
+abbrev pub open_confirm : ℕ → ℕ → ℕ → Bool → ℕ → Session → Reaction
+open_confirm own hold id wide now s =
     let h = min own hold in
     record {
       acts = SendKeepalive ∷ [];
@@ -94,6 +96,7 @@ open_confirm own hold id now s =
         keepalive_at = due_in h now (h / 3);
         hold = h;
         id = id;
+        wide = wide;
       };
     }
 
@@ -134,7 +137,7 @@ live_row s other = stay s
 
 -- the rows of OpenSent (RFC 4271, section 6.6 for the code)
 abbrev pub open_sent_row : ℕ → ℕ → Session → Stimulus → Reaction
-open_sent_row own now s (OpenGood hold id) = open_confirm own hold id now s
+open_sent_row own now s (OpenGood hold id wide) = open_confirm own hold id wide now s
 open_sent_row own now s Keepalive = close_with FSM_ERROR UNSPECIFIC s
 open_sent_row own now s Update = close_with FSM_ERROR UNSPECIFIC s
 open_sent_row own now s other = live_row s other
@@ -142,7 +145,7 @@ open_sent_row own now s other = live_row s other
 -- the rows of OpenConfirm
 abbrev pub open_confirm_row : ℕ → Session → Stimulus → Reaction
 open_confirm_row now s Keepalive = established now s
-open_confirm_row now s (OpenGood hold id) = close_with FSM_ERROR UNSPECIFIC s
+open_confirm_row now s (OpenGood hold id wide) = close_with FSM_ERROR UNSPECIFIC s
 open_confirm_row now s OpenLate = close_with FSM_ERROR UNSPECIFIC s
 open_confirm_row now s Update = close_with FSM_ERROR UNSPECIFIC s
 open_confirm_row now s KeepaliveDue = keepalive_sent now s
@@ -152,7 +155,7 @@ open_confirm_row now s other = live_row s other
 abbrev pub established_row : ℕ → Session → Stimulus → Reaction
 established_row now s Keepalive = stay (held_on now s)
 established_row now s Update = stay (held_on now s)
-established_row now s (OpenGood hold id) = close_with FSM_ERROR UNSPECIFIC s
+established_row now s (OpenGood hold id wide) = close_with FSM_ERROR UNSPECIFIC s
 established_row now s OpenLate = close_with FSM_ERROR UNSPECIFIC s
 established_row now s KeepaliveDue = keepalive_sent now s
 established_row now s other = live_row s other

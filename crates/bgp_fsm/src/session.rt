@@ -18,6 +18,7 @@ pub struct Session {
     // The hold time in use.
     hold: u16,
     peer_id: u32,
+    wide: bool,
 }
 
 impl Model for Session {
@@ -33,6 +34,7 @@ impl Model for Session {
         keepalive_at = s.keepalive_at;
         hold = s.hold;
         id = s.peer_id;
+        wide = s.wide;
       };
     } };
 }
@@ -64,6 +66,7 @@ impl Session {
             keepalive_at: None,
             hold: 0,
             peer_id: 0,
+            wide: false,
         }
     }
 
@@ -79,6 +82,13 @@ impl Session {
         ensures { result ≡ self.now.session.id }
     {
         self.peer_id
+    }
+
+    /// Whether AS numbers have four octets in the session, by the peer's last good OPEN, or false.
+    pub fn wide(&self) -> bool
+        ensures { result ≡ self.now.session.wide }
+    {
+        self.wide
     }
 
     /// The timer that is due first, with its due time: the hold timer if both are due at once, None if no timer is set.
@@ -109,7 +119,7 @@ impl Session {
             (Connect, Stop) => self.enter(Idle),
             (Connect, LinkUp) => self.send_open(now),
             (Idle | Connect, _) => Reaction::none(),
-            (OpenSent, OpenGood { hold, id }) => self.confirm(now, hold, id),
+            (OpenSent, OpenGood { hold, id, wide }) => self.confirm(now, hold, id, wide),
             (OpenSent, Keepalive | Update) => self.close_with(FSM_ERROR, UNSPECIFIC),
             (OpenConfirm, Keepalive) => self.come_up(now),
             (OpenConfirm, OpenGood { .. } | OpenLate | Update) => self.close_with(
@@ -152,14 +162,15 @@ impl Session {
         Reaction::none().then(Act::SendOpen)
     }
 
-    fn confirm(&mut self, now: u64, hold: u16, id: u32) -> Reaction
+    fn confirm(&mut self, now: u64, hold: u16, id: u32, wide: bool) -> Reaction
         requires { now < 2 ^ 32 }
-        ensures { Reacts (open_confirm self.old.own hold id now self.old.session) self.old self.new result }
+        ensures { Reacts (open_confirm self.old.own hold id wide now self.old.session) self.old self.new result }
     {
         let hold = self.own_hold.min(hold);
         self.state = State::OpenConfirm;
         self.hold = hold;
         self.peer_id = id;
+        self.wide = wide;
         self.hold_at = due_in(hold, now, hold);
         self.keepalive_at = due_in(hold, now, hold / 3);
         Reaction::none().then(Act::SendKeepalive)

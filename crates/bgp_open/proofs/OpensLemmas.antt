@@ -9,7 +9,7 @@ use Rattle.xb_words.proofs.CutLemmas.{cut-some, cut-none}
 use Rattle.xb_wire.specs.declared.numbers.TheConstants.{UNSPECIFIC}
 use Rattle.xb_wire.specs.Messages.{Notification}
 use Rattle.bgp_open.specs.declared.TheConstants.{FIELD_HEADER}
-use Rattle.bgp_open.specs.Opens.{field_size, front_field, fills, first_parameter_fault, open_error, parameter_fault, parameters_fault}
+use Rattle.bgp_open.specs.Opens.{field_size, front_field, field_value, fills, first_parameter_fault, open_error, parameter_fault, parameters_fault, as_of, first_as, as_in, first_as_in, wide_as}
 
 -- octets can be cut into fields: one is not empty and does not run past the end
 pub IsSize-field_size : IsSize field_size
@@ -89,5 +89,40 @@ parameters_fault-bad s front after f e bad =
 pub parameters_fault-end : (s : List ℕ) → None ≡ front_field s → parameters_fault s ≡ (if length s == 0 then None else Some (open_error UNSPECIFIC []))
 parameters_fault-end s e = by_pieces s ∙ ap fault_of (uncut s e)
 
--- one step of a loop over fields
+-- the first AS number among capabilities, by the capability at the front
+as_in-field : (s front after : List ℕ) → Some (front, after) ≡ front_field s → as_in s ≡ or_else (as_of front) (as_in after)
+unfolding as_in
+as_in-field s front after e = ap (λ (p : Pieces). first_as p.items) (cut_field s front after e).0
+
+pub as_in-other : (s front after : List ℕ) → Some (front, after) ≡ front_field s → as_of front ≡ None → as_in s ≡ as_in after
+as_in-other s front after e none = as_in-field s front after e ∙ ap (λ o. or_else o (as_in after)) none
+
+pub as_in-here : (s front after : List ℕ) (n : ℕ) → Some (front, after) ≡ front_field s → as_of front ≡ Some n → as_in s ≡ Some n
+as_in-here s front after n e here = as_in-field s front after e ∙ ap (λ o. or_else o (as_in after)) here
+
+-- and when no capability is there
+pub as_in-end : (s : List ℕ) → None ≡ front_field s → as_in s ≡ None
+unfolding as_in
+as_in-end s e = ap (λ (p : Pieces). first_as p.items) (uncut s e)
+
+-- the first AS number in parameters, by the parameter at the front
+wide_as-field : (s front after : List ℕ) → Some (front, after) ≡ front_field s → wide_as s ≡ or_else (as_in (field_value front)) (wide_as after)
+unfolding wide_as
+wide_as-field s front after e = ap (λ (p : Pieces). first_as_in p.items) (cut_field s front after e).0
+
+pub wide_as-other : (s front after : List ℕ) → Some (front, after) ≡ front_field s → as_in (field_value front) ≡ None → wide_as s ≡ wide_as after
+wide_as-other s front after e none = wide_as-field s front after e ∙ ap (λ o. or_else o (wide_as after)) none
+
+pub wide_as-here : (s front after : List ℕ) (n : ℕ) → Some (front, after) ≡ front_field s → as_in (field_value front) ≡ Some n → wide_as s ≡ Some n
+wide_as-here s front after n e here = wide_as-field s front after e ∙ ap (λ o. or_else o (wide_as after)) here
+
+-- and when no parameter is there
+pub wide_as-end : (s : List ℕ) → None ≡ front_field s → wide_as s ≡ None
+unfolding wide_as
+wide_as-end s e = ap (λ (p : Pieces). first_as_in p.items) (uncut s e)
+
+-- one step of a loop that judges fields
 pub ruleset walks = (length-after_field, fills-field, fills-end, parameters_fault-good, parameters_fault-bad, parameters_fault-end)
+
+-- one step of a loop that looks for an AS number
+pub ruleset searches = (length-after_field, as_in-other, as_in-here, as_in-end, wide_as-other, wide_as-here, wide_as-end)

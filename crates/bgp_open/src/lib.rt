@@ -1,20 +1,21 @@
-//! The judgement of an OPEN (RFC 4271, sections 4.2 and 6.2; RFC 5492, section 4).
+//! The judgement of an OPEN (RFC 4271, sections 4.2 and 6.2; RFC 5492, section 4; RFC 6793, section 3).
 //!
-//! The body of an OPEN comes in, without its header, and what the peer must be. [`read_open`] judges the fields in a
-//! fixed order, which is this project's own: version, AS number, hold time, identifier, length of the parameters, and
-//! then one parameter after another. The first fault goes out as the [`Notice`] that a NOTIFICATION sends; an OPEN
-//! without fault gives its hold time and its identifier.
+//! The body of an OPEN comes in, without its header, and what the peer must be. [`read_open4`] judges the fields in a
+//! fixed order, which is this project's own: version, hold time, identifier, length of the parameters, then one
+//! parameter after another, and last the AS number. The first fault goes out as the [`Notice`] that a NOTIFICATION
+//! sends; an OPEN without fault gives its hold time, its identifier, and whether AS numbers have four octets.
 //!
-//! A parameter must hold capabilities. They must fill it, and are otherwise not read, so nothing is negotiated. Which
-//! fault is the first is defined in `specs/Opens` as a search over the list of parameters; the code is one pass and
-//! takes no memory.
+//! A parameter must hold capabilities, and they must fill it. One of them is read, the AS number of four octets: it is
+//! judged in place of the AS field if it is there. No other is looked at, so nothing else is negotiated. Which fault is
+//! the first is defined in `specs/Opens` as a search over the list of parameters; the code is one pass for faults and
+//! one for the AS number, and takes no memory.
 #![tactic(auto)]
 
 ghost use Rattle.std.specs.Prelude.{◌≡◌, ◌≤◌, [], length, IfOk, IfErr, IfSome, Some, None};
 ghost use Rattle.std.specs.Option.{option_map};
 ghost use Rattle.xb_wire.specs.Views.{notice_view};
 ghost use Rattle.bgp_open.specs.Opens.{front_field, fills, open_error, parameter_fault, parameters_fault};
-ghost use Rattle.bgp_open.specs.Opens.{judge_open, open_seen};
+ghost use Rattle.bgp_open.specs.Opens.{as_in, as_of, field_value, judge_open4, open_seen4, wide_as};
 
 use xb_wire::Notice;
 use xb_wire::numbers::{
@@ -41,8 +42,14 @@ pub const PARAMETERS: usize = 10;
 /// The type of the parameter that holds capabilities (RFC 5492, section 4).
 pub const CAPABILITIES: u8 = 2;
 
+/// The code of the capability that has the speaker's AS number in four octets (RFC 6793, section 3).
+pub const FOUR_OCTET_AS: u8 = 65;
+
 // The octets of a parameter or a capability before its value: a type and a length.
 const FIELD_HEADER: usize = 2;
+
+// The octets of the capability that has an AS number, with its header.
+const AS_CAPABILITY: usize = FIELD_HEADER + 4;
 
 // The least hold time that is not 0 (RFC 4271, section 4.2).
 const MIN_HOLD: u16 = 3;
@@ -56,12 +63,13 @@ pub struct OpenWant {
     pub peer_as: u32,
 }
 
-/// What an accepted OPEN says: its hold time in seconds, and its identifier, whose high octet is the first of its
-/// dotted form.
+/// What an accepted OPEN says: its hold time in seconds, its identifier, whose high octet is the first of its dotted
+/// form, and whether its sender has AS numbers of four octets (RFC 6793, section 3).
 #[derive(Clone, Copy, Debug, PartialEq, Eq)]
-pub struct OpenSeen {
+pub struct OpenSeen4 {
     pub hold: u16,
     pub id: u32,
+    pub wide: bool,
 }
 
 // An error of an OPEN, without data.
@@ -136,14 +144,64 @@ fn fault_of_parameters(octets: &[u8]) -> Option<Notice<'static>>
     }
 }
 
+// The AS number of a capability, if it is one of four octets.
+fn as_of(capability: &[u8]) -> Option<u32>
+    requires { FIELD_HEADER ≤ length capability.now }
+    ensures { result ≡ as_of capability.now }
+{
+    if capability[0] == FOUR_OCTET_AS && capability.len() == AS_CAPABILITY {
+        Some(u32_at(capability, FIELD_HEADER))
+    } else {
+        None
+    }
+}
+
+// The first AS number of four octets among capabilities.
+#[tactic(auto, using(crate::proofs::OpensLemmas::searches))]
+fn as_in(octets: &[u8]) -> Option<u32>
+    ensures { result ≡ as_in octets.now }
+{
+    let mut rest = octets;
+    'capabilities: while let Some((capability, after)) = split_field(rest) {
+        if let Some(asn) = as_of(capability) {
+            return Some(asn);
+        }
+        rest = after;
+    }
+    None
+}
+
+// The same in a parameter.
+fn as_in_parameter(parameter: &[u8]) -> Option<u32>
+    requires { FIELD_HEADER ≤ length parameter.now }
+    ensures { result ≡ as_in (field_value parameter.now) }
+{
+    as_in(&parameter[FIELD_HEADER..])
+}
+
+// The first AS number of four octets in the parameters.
+#[tactic(auto, using(crate::proofs::OpensLemmas::searches))]
+fn wide_as(octets: &[u8]) -> Option<u32>
+    ensures { result ≡ wide_as octets.now }
+{
+    let mut rest = octets;
+    'parameters: while let Some((parameter, after)) = split_field(rest) {
+        if let Some(asn) = as_in_parameter(parameter) {
+            return Some(asn);
+        }
+        rest = after;
+    }
+    None
+}
+
 /// Reads the body of an OPEN, which has at least 10 octets after the message's header, or returns its first fault. The
 /// data of a fault is empty, except for a version other than 4: there it is the supported version, in two octets.
-#[tactic(auto, unfolding(crate::specs::Opens::judge_open))]
-pub fn read_open<'a>(body: &'a [u8], want: &OpenWant) -> Result<OpenSeen, Notice<'a>>
+#[tactic(auto, unfolding(crate::specs::Opens::judge_open4))]
+pub fn read_open4<'a>(body: &'a [u8], want: &OpenWant) -> Result<OpenSeen4, Notice<'a>>
     requires { PARAMETERS ≤ length body.now }
-    ensures fault { IfErr result (λ n. judge_open body.now want.now.peer_as ≡ Some (notice_view n)) }
-    ensures accepted { IfOk result (λ o. judge_open body.now want.now.peer_as ≡ None) }
-    ensures values { IfOk result (λ o. o ≡ open_seen body.now) }
+    ensures fault { IfErr result (λ n. judge_open4 body.now want.now.peer_as ≡ Some (notice_view n)) }
+    ensures accepted { IfOk result (λ o. judge_open4 body.now want.now.peer_as ≡ None) }
+    ensures values { IfOk result (λ o. o ≡ open_seen4 body.now) }
     ensures data { IfErr result (λ n. length n.extra.now ≤ 2) }
 {
     let hold = u16_at(body, HOLD_TIME);
@@ -154,9 +212,6 @@ pub fn read_open<'a>(body: &'a [u8], want: &OpenWant) -> Result<OpenSeen, Notice
             subcode: UNSUPPORTED_VERSION_NUMBER,
             extra: &SUPPORTED_VERSION,
         });
-    }
-    if u32::from(u16_at(body, MY_AS)) != want.peer_as {
-        return Err(error(BAD_PEER_AS));
     }
     if hold != 0 && hold < MIN_HOLD {
         return Err(error(UNACCEPTABLE_HOLD_TIME));
@@ -170,5 +225,13 @@ pub fn read_open<'a>(body: &'a [u8], want: &OpenWant) -> Result<OpenSeen, Notice
     if let Some(notice) = fault_of_parameters(&body[PARAMETERS..]) {
         return Err(notice);
     }
-    Ok(OpenSeen { hold, id })
+    let wide = wide_as(&body[PARAMETERS..]);
+    if wide.unwrap_or(u32::from(u16_at(body, MY_AS))) != want.peer_as {
+        return Err(error(BAD_PEER_AS));
+    }
+    Ok(OpenSeen4 {
+        hold,
+        id,
+        wide: wide.is_some(),
+    })
 }

@@ -1,9 +1,9 @@
 -- What is written is read again.
-use Rattle.std.proofs.Common.{◌≡◌, inl, inr, refl, sym, ap, ◌∙◌, ℕ, zero, suc, ◌+◌, ◌-◌, ◌*◌, ◌/◌, ◌%◌, ◌^◌, ◌<◌, ◌≤◌, ◌&&◌, Bool, true, List, [], ◌∷◌, ◌++◌, length, take, drop, map, Some, None, arith, add-zero, nat_le, nat_lt, flat_map}
-use Rattle.std.specs.Prelude.{slice_index, slice_range, if◌then◌else◌, ◌==◌, not}
+use Rattle.std.proofs.Common.{◌≡◌, ◌≢◌, inl, inr, refl, sym, ap, ◌∙◌, ℕ, zero, suc, ◌+◌, ◌-◌, ◌*◌, ◌/◌, ◌%◌, ◌^◌, ◌<◌, ◌≤◌, ◌&&◌, Bool, true, false, List, [], ◌∷◌, ◌++◌, length, take, drop, map, Option, Some, None, arith, add-zero, nat_le, nat_lt, flat_map}
+use Rattle.std.specs.Prelude.{is_some, slice_index, slice_range, if◌then◌else◌, ◌==◌, not}
 use Rattle.std.specs.Int.{w16, w32, from_be_bytes}
 use Rattle.std.specs.List.{AllByRecursion, concat}
-use Rattle.std.proofs.lemmas.Bool.{cases_Bool, and_parts, leb-true, le-leb, le-ltb}
+use Rattle.std.proofs.lemmas.Bool.{cases_Bool, and_parts, eq-eqb, leb-true, le-leb, le-ltb, ne_eqb}
 use Rattle.std.proofs.lemmas.List.{length-append, append_assoc, append-nil, drop_at, length-take-le, get_or-append-add}
 use Rattle.std.proofs.lemmas.Nat.{from_be_bytes-to_be_bytes_2, from_be_bytes-to_be_bytes_4, pow_pos, pow-add}
 use Rattle.std.proofs.Math.Nat.{mul-div_cancel, mul-mod_left, mul_assoc, div-one}
@@ -12,7 +12,11 @@ use Rattle.xb_words.specs.Cut.{cut, IsStable, IsItem, Pieces}
 use Rattle.xb_words.proofs.CutLemmas.{cut-concat}
 use Rattle.xb_wire.specs.Messages.{Update, update_body, update_of, split, message_size, IsMessage}
 use Rattle.xb_wire.proofs.MessageLemmas.{message_size_is_size, message_size_is_stable}
-use Rattle.bgp_write.specs.Written.{open_body}
+use Rattle.xb_words.specs.Optional.{or_else}
+use Rattle.xb_wire.specs.Messages.{Notification}
+use Rattle.xb_wire.specs.declared.numbers.TheConstants.{BAD_BGP_IDENTIFIER, BAD_PEER_AS, UNACCEPTABLE_HOLD_TIME}
+use Rattle.bgp_open.specs.Opens.{as_fault, as_in, as_or_field, fills, fixed_fault, is_short_hold, judge_open4, open_error, open_seen4, parameters, parameters_fault, wide_as}
+use Rattle.bgp_write.specs.Written.{as_parameter, open_body, wide_open_body}
 use Rattle.bgp_write.proofs.PackingLemmas.{slice_range-part}
 use Rattle.xb_values.specs.Prefixes.{Prefix, prefix_of, prefix_at, prefix_octets, prefix_size, prefixes, are_prefixes, octets_for, cleared, IsPrefix}
 use Rattle.xb_values.proofs.PrefixLemmas.{prefix_size_is_size}
@@ -157,6 +161,48 @@ update_of-update_body u small_withdrawn small_section =
 -- the body of an OPEN has its fields
 pub open_body-fields : (asn hold id : ℕ) → asn < 2 ^ 16 → hold < 2 ^ 16 → id < 2 ^ 32 → (two_at (open_body asn hold id) 1 ≡ asn) × (two_at (open_body asn hold id) 3 ≡ hold) × (four_at (open_body asn hold id) 5 ≡ id)
 open_body-fields asn hold id small_asn small_hold small_id = (from_be_bytes-to_be_bytes_2 asn small_asn, from_be_bytes-to_be_bytes_2 hold small_hold, from_be_bytes-to_be_bytes_4 id small_id)
+
+-- the parameter of an AS number has no fault, and that number is found
+as_parameter_is_good : (asn : ℕ) → parameters_fault (as_parameter asn) ≡ None
+unfolding cut fills parameters_fault
+as_parameter_is_good asn = refl
+
+wide_as-as_parameter : (asn : ℕ) → asn < 2 ^ 32 → wide_as (as_parameter asn) ≡ Some asn
+unfolding cut as_in wide_as
+wide_as-as_parameter asn small = ap Some (from_be_bytes-to_be_bytes_4 asn small)
+
+-- the first fault of an OPEN whose other fields are good
+abbrev fault_by : ℕ → ℕ → Option Notification
+fault_by hold id =
+    if is_short_hold hold then Some (open_error UNACCEPTABLE_HOLD_TIME [])
+    else if id == 0 then Some (open_error BAD_BGP_IDENTIFIER [])
+    else None
+
+no_fault_by : (hold id : ℕ) → is_short_hold hold ≡ false → id ≢ 0 → fault_by hold id ≡ None
+no_fault_by hold id long set = rw (long, ne_eqb id 0 set) refl
+
+-- the body of an OPEN with its AS number in four octets is accepted
+pub judge_open4-wide_open_body : (asn hold id : ℕ) → asn < 2 ^ 32 → hold < 2 ^ 16 → id < 2 ^ 32 → is_short_hold hold ≡ false → id ≢ 0 → judge_open4 (wide_open_body asn hold id) asn ≡ None
+unfolding judge_open4
+judge_open4-wide_open_body asn hold id small_asn small_hold small_id long set =
+    let body = wide_open_body asn hold id in
+    let hold_is : two_at body 3 ≡ hold = from_be_bytes-to_be_bytes_2 hold small_hold in
+    let id_is : four_at body 5 ≡ id = from_be_bytes-to_be_bytes_4 id small_id in
+    let fixed : fixed_fault body ≡ None =
+    ap (λ h. fault_by h (four_at body 5)) hold_is ∙ ap (λ i. fault_by hold i) id_is ∙ no_fault_by hold id long set in
+    let last : as_fault body asn ≡ None =
+    ap (λ o. if as_or_field o body == asn then None else Some (open_error BAD_PEER_AS [])) (wide_as-as_parameter asn small_asn)
+    ∙ rw (eq-eqb asn asn refl) refl in
+    ap (λ o. or_else o (or_else (parameters_fault (parameters body)) (as_fault body asn))) fixed
+    ∙ ap (λ o. or_else o (as_fault body asn)) (as_parameter_is_good asn) ∙ last
+
+-- and says what was written
+pub open_seen4-wide_open_body : (asn hold id : ℕ) → asn < 2 ^ 32 → hold < 2 ^ 16 → id < 2 ^ 32 → open_seen4 (wide_open_body asn hold id) ≡ record { hold = hold; id = id; wide = true }
+open_seen4-wide_open_body asn hold id small_asn small_hold small_id =
+    let body = wide_open_body asn hold id in
+    ap (λ h. record { hold = h; id = four_at body 5; wide = is_some (wide_as (parameters body)) }) (from_be_bytes-to_be_bytes_2 hold small_hold)
+    ∙ ap (λ i. record { hold = hold; id = i; wide = is_some (wide_as (parameters body)) }) (from_be_bytes-to_be_bytes_4 id small_id)
+    ∙ ap (λ o. record { hold = hold; id = id; wide = is_some o }) (wide_as-as_parameter asn small_asn)
 
 -- a stream of one message is split into it
 pub split-message : (m : List ℕ) → IsMessage m → split m ≡ record { items = m ∷ []; rest = [] }

@@ -1,10 +1,11 @@
 //! Laws of the definitions: what is written is read again. Each is the contract of a function that does nothing.
-ghost use Rattle.std.specs.Prelude.{◌≡◌, ◌+◌, ◌<◌, ◌^◌, ℕ, List, [], ◌∷◌, length, flat_map, Some, true, if◌then◌else◌};
+ghost use Rattle.std.specs.Prelude.{◌≡◌, ◌≢◌, ◌+◌, ◌<◌, ◌^◌, ℕ, List, [], ◌∷◌, length, flat_map, Some, None, true, false, if◌then◌else◌};
 ghost use Rattle.std.specs.List.{AllByRecursion};
 ghost use Rattle.xb_words.specs.Octets.{two_at, four_at};
 ghost use Rattle.xb_wire.specs.Messages.{Update, message, message_kind, message_body, split, update_body, update_message, update_of, IsMessage};
 ghost use Rattle.xb_values.specs.Prefixes.{Prefix, prefixes, are_prefixes, prefix_octets, IsPrefix};
-ghost use Rattle.bgp_write.specs.Written.{open_body};
+ghost use Rattle.bgp_open.specs.Opens.{is_short_hold, judge_open4, open_seen4};
+ghost use Rattle.bgp_write.specs.Written.{open_body, wide_open_body};
 ghost use Rattle.bgp_write.specs.Packings.{Packed, packed_message};
 
 use xb_wire::numbers::EMPTY_UPDATE;
@@ -22,6 +23,15 @@ pub fn open_is_read_again()
     ensures { (asn hold id : ℕ) → asn < 2 ^ 16 → hold < 2 ^ 16 → id < 2 ^ 32
         → (two_at (open_body asn hold id) 1 ≡ asn) × (two_at (open_body asn hold id) 3 ≡ hold)
         × (four_at (open_body asn hold id) 5 ≡ id) }
+{}
+
+/// The body of an OPEN with its AS number in four octets is accepted from the peer of that number, and says what was
+/// written (RFC 6793, section 3).
+pub fn wide_open_is_read_again()
+    ensures accepted { (asn hold id : ℕ) → asn < 2 ^ 32 → hold < 2 ^ 16 → id < 2 ^ 32
+        → is_short_hold hold ≡ false → id ≢ 0 → judge_open4 (wide_open_body asn hold id) asn ≡ None }
+    ensures values { (asn hold id : ℕ) → asn < 2 ^ 32 → hold < 2 ^ 16 → id < 2 ^ 32
+        → open_seen4 (wide_open_body asn hold id) ≡ record { hold = hold; id = id; wide = true } }
 {}
 
 /// The parts of an UPDATE are read from its body, and the prefixes from the octets of all of them (RFC 4271, section

@@ -7,20 +7,20 @@
 #![tactic(auto)]
 
 ghost use Rattle.std.specs.Prelude.{◌≡◌, None, IfSome};
-ghost use Rattle.bgp_open.specs.Opens.{judge_open};
+ghost use Rattle.bgp_open.specs.Opens.{judge_open4};
 
 use bgp_frame::{Frames, Next};
-use bgp_open::{OpenSeen, OpenWant, read_open};
+use bgp_open::{OpenSeen4, OpenWant, read_open4};
 use xb_wire::numbers::OPEN;
 
 pub mod refusing;
 
 /// Removes the first message that waits, and returns what it says if it is an OPEN that is accepted.
-pub fn next_open(frames: &mut Frames, want: &OpenWant) -> Option<OpenSeen>
-    ensures { IfSome result (λ o. judge_open frames.new.body want.now.peer_as ≡ None) }
+pub fn next_open(frames: &mut Frames, want: &OpenWant) -> Option<OpenSeen4>
+    ensures { IfSome result (λ o. judge_open4 frames.new.body want.now.peer_as ≡ None) }
 {
     match frames.next() {
-        Next::Whole { kind: OPEN, .. } => read_open(frames.body(), want).ok(),
+        Next::Whole { kind: OPEN, .. } => read_open4(frames.body(), want).ok(),
         _ => None,
     }
 }

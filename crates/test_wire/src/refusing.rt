@@ -1,11 +1,11 @@
 //! What a judgement refuses can be sent: a notice's data is short enough for a NOTIFICATION, whatever the body was.
 ghost use Rattle.std.specs.Prelude.{◌≤◌, length, IfSome};
 ghost use Rattle.bgp_check.specs.Judgement.{judge};
-ghost use Rattle.bgp_open.specs.Opens.{judge_open};
+ghost use Rattle.bgp_open.specs.Opens.{judge_open4};
 ghost use Rattle.bgp_write.specs.Written.{Replaces, notice_message};
 
 use bgp_check::check_update;
-use bgp_open::{OpenWant, PARAMETERS, read_open};
+use bgp_open::{OpenWant, PARAMETERS, read_open4};
 use bgp_write::write_notice;
 use xb_values::Buf;
 use xb_wire::numbers::{MAX_BODY, MAX_MESSAGE};
@@ -26,10 +26,10 @@ pub fn refuse_update(out: &mut Buf, body: &[u8])
 pub fn refuse_open(out: &mut Buf, body: &[u8], want: &OpenWant)
     requires room { MAX_MESSAGE ≤ out.old.capacity }
     requires body { PARAMETERS ≤ length body.now }
-    ensures { IfSome (judge_open body.now want.now.peer_as)
+    ensures { IfSome (judge_open4 body.now want.now.peer_as)
         (λ n. Replaces out.old out.new (notice_message n.code n.subcode n.extra)) }
 {
-    match read_open(body, want) {
+    match read_open4(body, want) {
         Ok(_) => {}
         Err(notice) => write_notice(out, notice.code, notice.subcode, notice.extra),
     }

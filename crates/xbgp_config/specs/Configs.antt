@@ -25,7 +25,7 @@ pub record Config : Type 0 where
   pub peers : List PeerEntry
   pub costs : List CostEntry
 
--- an AS number of two octets, which is not 0
+-- an AS number of four octets, which is not 0
 abbrev pub is_as : ℕ → Bool
 is_as n = is_between 1 MAX_AS n
 

@@ -1,7 +1,7 @@
 //! The limits and defaults of a configuration.
 
-/// The greatest AS number: AS numbers have two octets.
-pub const MAX_AS: u32 = 65_535;
+/// The greatest AS number: AS numbers have four octets (RFC 6793).
+pub const MAX_AS: u32 = u32::MAX;
 
 /// The most peers.
 pub const MAX_PEERS: u32 = 64;

@@ -34,23 +34,23 @@ first_rest s =
     rest_of_walk 0 (split s).items (split s).rest ∙ ap (ends_at (split s).rest) from
 
 -- the lines of the messages that are still to come
-abbrev pub lines_of : List (Result FoundMessage ℕ) → List ℕ
-lines_of [] = []
-lines_of (Err at ∷ ms) = []
-lines_of (Ok m ∷ ms) = judge_line m ++ lines_of ms
+abbrev pub lines_of : ℕ → List (Result FoundMessage ℕ) → List ℕ
+lines_of w [] = []
+lines_of w (Err at ∷ ms) = []
+lines_of w (Ok m ∷ ms) = judge_line w m ++ lines_of w ms
 
-lines_of_walk : (at : ℕ) (items : List (List ℕ)) (rest : List ℕ) → lines_of (walk found_message (λ i. i) at items rest) ≡ flat_map judge_line (map (λ m. found_message m.0 m.1) (with_offsets at items))
-lines_of_walk at [] [] = refl
-lines_of_walk at [] (b ∷ rest) = refl
-lines_of_walk at (m ∷ items) rest = ap (λ l. judge_line (found_message at m) ++ l) (lines_of_walk (at + length m) items rest)
+lines_of_walk : (w at : ℕ) (items : List (List ℕ)) (rest : List ℕ) → lines_of w (walk found_message (λ i. i) at items rest) ≡ flat_map (judge_line w) (map (λ m. found_message m.0 m.1) (with_offsets at items))
+lines_of_walk w at [] [] = refl
+lines_of_walk w at [] (b ∷ rest) = refl
+lines_of_walk w at (m ∷ items) rest = ap (λ l. judge_line w (found_message at m) ++ l) (lines_of_walk w (at + length m) items rest)
 
 -- at first all lines are still to come
-pub all_lines : (s : List ℕ) → lines_of (messages_from 0 s) ≡ judge_lines s
+pub all_lines : (w : ℕ) (s : List ℕ) → lines_of w (messages_from 0 s) ≡ judge_lines w s
 unfolding walk_from
-all_lines s = lines_of_walk 0 (split s).items (split s).rest
+all_lines w s = lines_of_walk w 0 (split s).items (split s).rest
 
 -- a stream of whole messages
-pub judge_outcome-none : (octets : List ℕ) → rest_offset octets ≡ None → ended (judge_outcome octets) ≡ answered Done (judge_lines octets ++ end_line)
-judge_outcome-none octets e =
-    let by : Option ℕ → Outcome (List ℕ) = λ o. elim o as (λ x. Outcome (List ℕ)) [ None ↦ Ok (judge_lines octets ++ end_line) | Some at ↦ Err (BadStream at) ] in
+pub judge_outcome-none : (w : ℕ) (octets : List ℕ) → rest_offset octets ≡ None → ended (judge_outcome w octets) ≡ answered Done (judge_lines w octets ++ end_line)
+judge_outcome-none w octets e =
+    let by : Option ℕ → Outcome (List ℕ) = λ o. elim o as (λ x. Outcome (List ℕ)) [ None ↦ Ok (judge_lines w octets ++ end_line) | Some at ↦ Err (BadStream at) ] in
     ap (λ (o : Option ℕ). ended (by o)) e

@@ -5,6 +5,7 @@ use Rattle.std.proofs.lemmas.List.{take_all}
 use Rattle.xb_values.specs.Texts.{line}
 use Rattle.xb_io.specs.Causes.{Files, FaultsRose, TookFront, with_text}
 use Rattle.bgp_update.specs.Heard.{heard}
+use Rattle.bgp_attr.specs.Paths.{width_of}
 use Rattle.bpf_insn.specs.Loading.{load_fault}
 use Rattle.xbgp_top.specs.declared.command.Job.{Job}
 use Rattle.xbgp_top.specs.declared.command.Job.TheVariants.{Heard, Judge, Exec}
@@ -27,8 +28,8 @@ IsOfInput status = Unit {0}
 of_input : (job : Job) (octets : List ℕ) → IfErr (job_outcome job octets) IsOfInput
 of_input Heard octets =
     elim (heard octets) as (λ r. IfErr (elim r as (λ x. Outcome (List ℕ)) [ Ok table ↦ Ok (table_lines table ++ end_line) | Err at ↦ Err (BadStream at) ]) IsOfInput) [ Ok table ↦ tt | Err at ↦ tt ]
-of_input Judge octets =
-    elim (rest_offset octets) as (λ o. IfErr (elim o as (λ x. Outcome (List ℕ)) [ None ↦ Ok (judge_lines octets ++ end_line) | Some at ↦ Err (BadStream at) ]) IsOfInput) [ None ↦ tt | Some at ↦ tt ]
+of_input (Judge wide) octets =
+    elim (rest_offset octets) as (λ o. IfErr (elim o as (λ x. Outcome (List ℕ)) [ None ↦ Ok (judge_lines (width_of wide) octets ++ end_line) | Some at ↦ Err (BadStream at) ]) IsOfInput) [ None ↦ tt | Some at ↦ tt ]
 of_input Exec octets =
     elim (load_fault no_helper octets) as (λ o. IfErr (elim o as (λ x. Outcome (List ℕ)) [ None ↦ Ok (line (end_words (alone octets)) ++ end_line) | Some fault ↦ Err (BadCode fault) ]) IsOfInput) [ None ↦ tt | Some fault ↦ tt ]
 

@@ -12,6 +12,7 @@ use Rattle.xb_wire.specs.Messages.{split}
 use Rattle.xb_io.specs.Causes.{Files, file_named}
 use Rattle.bgp_update.specs.Heard.{heard}
 use Rattle.bgp_update.specs.Walks.{FoundMessage, found_message}
+use Rattle.bgp_attr.specs.Paths.{width_of}
 use Rattle.bgp_check.specs.Judgement.{judge}
 use Rattle.bpf_mem.specs.Memory.{fresh}
 use Rattle.bpf_insn.specs.Loading.{load_fault}
@@ -111,29 +112,30 @@ messages_of s = map (λ m. found_message m.0 m.1) (with_offsets 0 (split s).item
 abbrev pub rest_offset : List ℕ → Option ℕ
 rest_offset s = if length (split s).rest == 0 then None else Some (length (concat (split s).items))
 
--- what is said of a message: an UPDATE is clean or gets a NOTIFICATION, another kind is not judged
-abbrev pub verdict : FoundMessage → List (List ℕ)
-verdict m =
+-- what is said of a message, with `w` octets an AS number: an UPDATE is clean or gets a NOTIFICATION, another kind is
+-- not judged
+abbrev pub verdict : ℕ → FoundMessage → List (List ℕ)
+verdict w m =
     if m.kind == UPDATE then
-    elim (judge 2 m.body) as (λ o. List (List ℕ)) [
+    elim (judge w m.body) as (λ o. List (List ℕ)) [
       | None ↦ codes "clean" ∷ []
       | Some n ↦ codes "notice" ∷ decimal n.code ∷ decimal n.subcode ∷ hex_text n.extra ∷ []
     ]
     else codes "other" ∷ []
 
 -- a message's offset, and what is said of it
-abbrev pub judge_line : FoundMessage → List ℕ
-judge_line m = line (decimal m.at ∷ verdict m)
+abbrev pub judge_line : ℕ → FoundMessage → List ℕ
+judge_line w m = line (decimal m.at ∷ verdict w m)
 
 -- a line for each message
-abbrev pub judge_lines : List ℕ → List ℕ
-judge_lines octets = flat_map judge_line (messages_of octets)
+abbrev pub judge_lines : ℕ → List ℕ → List ℕ
+judge_lines w octets = flat_map (judge_line w) (messages_of octets)
 
 -- a line for each message of a stream, or the offset of what is left after them
-abbrev pub judge_outcome : List ℕ → Outcome (List ℕ)
-judge_outcome octets =
+abbrev pub judge_outcome : ℕ → List ℕ → Outcome (List ℕ)
+judge_outcome w octets =
     elim (rest_offset octets) as (λ o. Outcome (List ℕ)) [
-      | None ↦ Ok (judge_lines octets ++ end_line)
+      | None ↦ Ok (judge_lines w octets ++ end_line)
       | Some at ↦ Err (BadStream at)
     ]
 
@@ -166,7 +168,7 @@ exec_outcome octets =
 -- what is asked about the octets of one file
 abbrev pub job_outcome : Job → List ℕ → Outcome (List ℕ)
 job_outcome Heard octets = heard_outcome octets
-job_outcome Judge octets = judge_outcome octets
+job_outcome (Judge wide) octets = judge_outcome (width_of wide) octets
 job_outcome Exec octets = exec_outcome octets
 
 -- a word and a count

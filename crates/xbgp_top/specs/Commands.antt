@@ -1,5 +1,5 @@
 -- The commands of the program, by the words of the command line (this project's own).
-use Rattle.std.specs.Prelude.{ℕ, List, [], ◌∷◌, Option, Some, None, codes, if◌then◌else◌}
+use Rattle.std.specs.Prelude.{ℕ, true, false, List, [], ◌∷◌, Option, Some, None, codes, if◌then◌else◌}
 use Rattle.std.specs.Option.{option_map}
 use Rattle.std.specs.Str.{bytes_eq}
 use Rattle.xbgp_top.specs.declared.command.Job.{Job}
@@ -14,7 +14,8 @@ pub data Command : Type 0 where
 abbrev pub job_of : List ℕ → Option Job
 job_of word =
     if bytes_eq word (codes "heard") then Some Heard
-    else if bytes_eq word (codes "judge") then Some Judge
+    else if bytes_eq word (codes "judge") then Some (Judge false)
+    else if bytes_eq word (codes "judge4") then Some (Judge true)
     else if bytes_eq word (codes "exec") then Some Exec
     else None
 

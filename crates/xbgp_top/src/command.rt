@@ -8,7 +8,8 @@ ghost use Rattle.xbgp_top.specs.Views.{command_view};
 #[derive(Clone, Copy, Debug, PartialEq, Eq)]
 pub(crate) enum Job {
     Heard,
-    Judge,
+    /// With AS numbers of four octets if `wide`, else of two.
+    Judge { wide: bool },
     Exec,
 }
 
@@ -26,7 +27,9 @@ fn job_in(word: &str) -> Option<Job>
     if word == "heard" {
         Some(Job::Heard)
     } else if word == "judge" {
-        Some(Job::Judge)
+        Some(Job::Judge { wide: false })
+    } else if word == "judge4" {
+        Some(Job::Judge { wide: true })
     } else if word == "exec" {
         Some(Job::Exec)
     } else {

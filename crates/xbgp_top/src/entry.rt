@@ -23,7 +23,7 @@ fn print_job<K: Sink>(alloc: Global, job: Job, octets: &[u8], sink: &mut K) -> S
 {
     match job {
         Job::Heard => print_heard(alloc, octets, sink),
-        Job::Judge => print_judged(alloc, octets, sink),
+        Job::Judge { wide } => print_judged(alloc, octets, wide, sink),
         Job::Exec => print_text(alloc, exec(alloc, octets), sink),
     }
 }

@@ -1,14 +1,18 @@
-//! The command `judge`: the verdict on each message of a stream, a line for each.
+//! The commands `judge` and `judge4`: the verdict on each message of a stream, a line for each.
 ghost use Rattle.std.specs.Prelude.{◌≡◌, ◌≤◌, ◌++◌, ◌∷◌, [], codes, decimal, length, OnOk};
+ghost use Rattle.std.specs.Option.{option_map};
 ghost use Rattle.xb_values.specs.Texts.{hex_text, line as line_of};
 ghost use Rattle.xbgp_top.specs.Answers.{end_line, ended, judge_line, judge_lines, judge_outcome, rest_offset};
 ghost use Rattle.xb_io.specs.Pages.{Gathers, Puts};
+ghost use Rattle.bgp_attr.specs.Paths.{width_of};
+ghost use Rattle.bgp_check.specs.Judgement.{judge};
 ghost use Rattle.bgp_update.specs.Views.{message_view};
+ghost use Rattle.xb_wire.specs.Views.{notice_view};
 ghost use Rattle.xbgp_top.specs.Outputs.{Writes};
 
 use crate::Status;
 use crate::output::{END_LINE, LINE, PAGE, end_status, refuse};
-use bgp_check::check_update;
+use bgp_check::{check_update, check_update4};
 use bgp_update::{Messages, Msg};
 use std::alloc::{AllocError, Global};
 use xb_io::{Halt, Sink, begin_line, gather, put_text};
@@ -80,16 +84,32 @@ fn write_notice(
     Ok(())
 }
 
+// The first fault of an UPDATE.
+fn update_fault(body: &[u8], wide: bool) -> Option<Notice<'_>>
+    ensures { option_map notice_view result ≡ judge (width_of wide) body.now }
+{
+    if wide {
+        check_update4(body).err()
+    } else {
+        check_update(body).err()
+    }
+}
+
 // Writes the verdict on a message.
-fn write_verdict(alloc: Global, line: &mut Buf, message: &Msg<'_>) -> Result<(), AllocError>
-    ensures { OnOk result (line.new.octets ≡ judge_line (message_view message.now)) }
+fn write_verdict(
+    alloc: Global,
+    line: &mut Buf,
+    message: &Msg<'_>,
+    wide: bool,
+) -> Result<(), AllocError>
+    ensures { OnOk result (line.new.octets ≡ judge_line (width_of wide) (message_view message.now)) }
 {
     if message.kind != UPDATE {
         return write_word(alloc, line, message.at, b"other");
     }
-    match check_update(message.body) {
-        Ok(_) => write_word(alloc, line, message.at, b"clean"),
-        Err(notice) => write_notice(alloc, line, message.at, &notice),
+    match update_fault(message.body, wide) {
+        None => write_word(alloc, line, message.at, b"clean"),
+        Some(notice) => write_notice(alloc, line, message.at, &notice),
     }
 }
 
@@ -97,10 +117,11 @@ fn write_verdict(alloc: Global, line: &mut Buf, message: &Msg<'_>) -> Result<(),
 fn gather_verdicts<K: Sink>(
     alloc: Global,
     octets: &[u8],
+    wide: bool,
     page: &mut Buf,
     sink: &mut K,
 ) -> Result<(), Halt>
-    ensures { let lines = judge_lines octets.now in
+    ensures { let lines = judge_lines (width_of wide) octets.now in
         Gathers K.took K.faults sink.old sink.new page.old.octets page.new.octets lines result }
 {
     let mut line = Buf::make(alloc, LINE)?;
@@ -109,28 +130,36 @@ fn gather_verdicts<K: Sink>(
         let Ok(message) = next else {
             return Ok(());
         };
-        write_verdict(alloc, &mut line, &message)?;
+        write_verdict(alloc, &mut line, &message, wide)?;
         gather(page, line.as_slice(), sink)?;
     }
     Ok(())
 }
 
 // Writes the verdicts and the last line.
-fn put_verdicts<K: Sink>(alloc: Global, octets: &[u8], sink: &mut K) -> Result<(), Halt>
-    ensures { Puts K.took K.faults sink.old sink.new (judge_lines octets.now ++ end_line) result }
+fn put_verdicts<K: Sink>(alloc: Global, octets: &[u8], wide: bool, sink: &mut K) -> Result<(), Halt>
+    ensures { let text = judge_lines (width_of wide) octets.now ++ end_line in
+        Puts K.took K.faults sink.old sink.new text result }
 {
     let mut page = Buf::make(alloc, PAGE)?;
-    gather_verdicts(alloc, octets, &mut page, sink)?;
+    gather_verdicts(alloc, octets, wide, &mut page, sink)?;
     gather(&mut page, END_LINE, sink)?;
     put_text(sink, page.as_slice())
 }
 
-/// Writes the verdict on each message of a stream, or the offset of what is left after its messages.
-pub(crate) fn print_judged<K: Sink>(alloc: Global, octets: &[u8], sink: &mut K) -> Status
-    ensures { Writes (ended (judge_outcome octets.now)) K.took K.faults sink.old sink.new result }
+/// Writes the verdict on each message of a stream, or the offset of what is left after its messages. AS numbers have
+/// four octets if `wide`, else two.
+pub(crate) fn print_judged<K: Sink>(
+    alloc: Global,
+    octets: &[u8],
+    wide: bool,
+    sink: &mut K,
+) -> Status
+    ensures { let told = ended (judge_outcome (width_of wide) octets.now) in
+        Writes told K.took K.faults sink.old sink.new result }
 {
     match refused_at(octets) {
         Some(at) => refuse(alloc, Status::BadStream(at as u64), sink),
-        None => end_status(put_verdicts(alloc, octets, sink), Status::Done),
+        None => end_status(put_verdicts(alloc, octets, wide, sink), Status::Done),
     }
 }

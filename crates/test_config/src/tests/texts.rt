@@ -7,13 +7,13 @@ pub(super) const TABLES: [(&str, &[Case]); 13] = [
     (SPEAKER, &LISTS),
     ("[speaker]\n", &AS),
     ("[speaker]\nas = 1\n", &ID),
-    ("[speaker]\nas = 65535\nid = '255.1.1.1'\n", &ADDRESS),
+    ("[speaker]\nas = 4294967295\nid = '255.1.1.1'\n", &ADDRESS),
     (
         "[speaker]\nas = 1\nid = '0.0.0.1'\naddress = '126.255.255.255'\n",
         &HOLD_AND_PREFERENCE,
     ),
     (
-        "[speaker]\nas = 65535\nid = '255.255.255.255'\naddress = '128.0.0.0'\n",
+        "[speaker]\nas = 4294967295\nid = '255.255.255.255'\naddress = '128.0.0.0'\n",
         &IN_RANGE,
     ),
     (
@@ -66,7 +66,7 @@ const AS: [Case; 9] = [
     ("as = [65000]", "Shape in Speaker 0"),
     ("as = 1979-05-27", "Shape in Speaker 0"),
     ("as = 0", "Range in Speaker 0"),
-    ("as = 65536", "Range in Speaker 0"),
+    ("as = 4294967296", "Range in Speaker 0"),
     ("as = -1", "Range in Speaker 0"),
 ];
 
@@ -114,7 +114,10 @@ const IN_RANGE: [Case; 10] = [
     ("networks = ['0.0.0.0/0', '255.255.255.255/32']", "good"),
     ("networks = ['10.0.0.0/8', '10.0.0.0/9']", "good"),
     ("[[peer]]\nas = 1\naddress = '1.0.0.0'", "good"),
-    ("[[peer]]\nas = 65535\naddress = '223.255.255.255'", "good"),
+    (
+        "[[peer]]\nas = 4294967295\naddress = '223.255.255.255'",
+        "good",
+    ),
 ];
 
 const NETWORKS: [Case; 10] = [
@@ -151,7 +154,7 @@ const PEERS: [Case; 18] = [
     ),
     ("peer = [{as = 0, address = '1.1.1.1'}]", "Range in Peer 1"),
     (
-        "peer = [{as = 65536, address = '1.1.1.1'}]",
+        "peer = [{as = 4294967296, address = '1.1.1.1'}]",
         "Range in Peer 1",
     ),
     ("peer = [{as = 1}]", "Missing in Peer 1"),

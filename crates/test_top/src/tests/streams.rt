@@ -7,6 +7,8 @@ const HEARD: &[&str] = &["heard", "x"];
 
 const JUDGE: &[&str] = &["judge", "x"];
 
+const JUDGE4: &[&str] = &["judge4", "x"];
+
 #[test]
 fn tables_are_printed(rt: HostRuntime) -> Result<(), Fail> {
     let alloc = rt.alloc();
@@ -65,6 +67,31 @@ fn messages_are_judged(rt: HostRuntime) -> Result<(), Fail> {
     Ok(())
 }
 
+// The body of an UPDATE that announces a prefix, with four octets an AS number.
+const WIDE: [u8; 26] = [
+    0, 0, 0, 20, 0x40, 1, 1, 0, 0x40, 2, 6, 2, 1, 0, 0, 0xfd, 0xe9, 0x40, 3, 4, 192, 0, 2, 1, 8, 10,
+];
+
+#[test]
+fn as_numbers_have_two_octets_or_four(rt: HostRuntime) -> Result<(), Fail> {
+    let alloc = rt.alloc();
+    let (clean, refused) = ("0 clean\nend\n", "0 notice 3 11 -\nend\n");
+    let narrow = update(alloc, &[8, 10])?;
+    expect(
+        &rt,
+        &narrow,
+        b"",
+        &[done(JUDGE, clean), done(JUDGE4, refused)],
+    )?;
+    let wide = message(alloc, 2, &WIDE)?;
+    expect(
+        &rt,
+        &wide,
+        b"",
+        &[done(JUDGE, refused), done(JUDGE4, clean)],
+    )
+}
+
 #[test]
 fn offsets_are_told(rt: HostRuntime) -> Result<(), Fail> {
     let alloc = rt.alloc();
@@ -73,6 +100,8 @@ fn offsets_are_told(rt: HostRuntime) -> Result<(), Fail> {
     let judged = done(JUDGE, "0 other\n19 notice 3 1 -\nend\n");
     expect(&rt, &stream, b"", &[judged])?;
     let _ = stream.pop();
-    let cut = refused(JUDGE, Status::BadStream(19), "fault stream 19\n");
-    expect(&rt, &stream, b"", &[cut])
+    let status = Status::BadStream(19);
+    let cut = refused(JUDGE, status, "fault stream 19\n");
+    let cut4 = refused(JUDGE4, status, "fault stream 19\n");
+    expect(&rt, &stream, b"", &[cut, cut4])
 }

@@ -1,6 +1,6 @@
 use crate::next_open;
 use bgp_frame::{Frames, HeaderFault, Next};
-use bgp_open::{OpenSeen, OpenWant};
+use bgp_open::{OpenSeen4, OpenWant};
 use std::test::Fail;
 
 // The header of an UPDATE whose length field is 4,097.
@@ -51,9 +51,10 @@ fn an_open_is_accepted_once_it_is_whole(rt: HostRuntime) -> Result<(), Fail> {
     assert_eq!(rt; frames.feed(&GREETING[..28]), 28);
     assert_eq!(rt; next_open(&mut frames, &want), None);
     assert_eq!(rt; frames.feed(&GREETING[28..]), 20);
-    let seen = OpenSeen {
+    let seen = OpenSeen4 {
         hold: 90,
         id: 0xc000_0201,
+        wide: false,
     };
     assert_eq!(rt; next_open(&mut frames, &want), Some(seen));
     assert_eq!(rt; next_open(&mut frames, &want), None);

@@ -1,7 +1,7 @@
 use bgp_check::check_update;
 use bgp_frame::{Frames, Next};
-use bgp_open::{OpenSeen, OpenWant, read_open};
-use bgp_write::{Packer, write_keepalive, write_notice, write_open};
+use bgp_open::{OpenSeen4, OpenWant, read_open4};
+use bgp_write::{Packer, write_keepalive, write_notice, write_open, write_open4};
 use std::alloc::Global;
 use std::test::Fail;
 use xb_values::{Buf, Prefix};
@@ -31,20 +31,25 @@ fn read_back(alloc: Global, octets: &[u8], piece: usize) -> Result<(u8, Vec<u8>)
 #[test]
 fn an_open_is_read_again(rt: HostRuntime) -> Result<(), Fail> {
     let alloc = rt.alloc();
-    let mut out = Buf::make(alloc, MAX_MESSAGE)?;
-    write_open(&mut out, 65001, 90, 0xc000_0201);
+    let mut plain = Buf::make(alloc, MAX_MESSAGE)?;
+    write_open(&mut plain, 65001, 90, 0xc000_0201);
+    let mut wide = Buf::make(alloc, MAX_MESSAGE)?;
+    write_open4(&mut wide, 200_000, 90, 0xc000_0201);
     for piece in [1, MAX_MESSAGE] {
-        let (kind, body) = read_back(alloc, out.as_slice(), piece)?;
-        assert_eq!(rt; kind, 1);
-        assert!(rt; body.len() >= 10);
-        let seen = read_open(&body, &OpenWant { peer_as: 65001 });
-        assert_eq!(rt;
-            seen,
-            Ok(OpenSeen {
-                hold: 90,
-                id: 0xc000_0201
-            })
-        );
+        for (out, is_wide, peer_as) in [(&plain, false, 65001), (&wide, true, 200_000)] {
+            let (kind, body) = read_back(alloc, out.as_slice(), piece)?;
+            assert_eq!(rt; kind, 1);
+            assert!(rt; body.len() >= 10);
+            let seen = read_open4(&body, &OpenWant { peer_as });
+            assert_eq!(rt;
+                seen,
+                Ok(OpenSeen4 {
+                    hold: 90,
+                    id: 0xc000_0201,
+                    wide: is_wide,
+                })
+            );
+        }
     }
     Ok(())
 }

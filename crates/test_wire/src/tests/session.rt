@@ -19,6 +19,7 @@ fn a_session_comes_up_and_expires(rt: HostRuntime) -> Result<(), Fail> {
     let mut session = Session::new(90);
     assert_eq!(rt; session.state(), State::Idle);
     assert_eq!(rt; session.peer_id(), 0);
+    assert!(rt; !session.wide());
 
     let reaction = session.on(0, Stimulus::Start);
     assert!(rt; are(&reaction, &[]));
@@ -30,7 +31,12 @@ fn a_session_comes_up_and_expires(rt: HostRuntime) -> Result<(), Fail> {
     assert_eq!(rt; session.state(), State::OpenSent);
     assert_eq!(rt; session.due(), Some((240, Timer::Hold)));
 
-    let reaction = session.on(5, Stimulus::OpenGood { hold: 30, id: 7 });
+    let good = Stimulus::OpenGood {
+        hold: 30,
+        id: 7,
+        wide: true,
+    };
+    let reaction = session.on(5, good);
     assert!(rt; are(&reaction, &[Act::SendKeepalive]));
     assert_eq!(rt; session.state(), State::OpenConfirm);
     assert_eq!(rt; session.due(), Some((15, Timer::Keepalive)));
@@ -55,5 +61,6 @@ fn a_session_comes_up_and_expires(rt: HostRuntime) -> Result<(), Fail> {
     assert_eq!(rt; session.state(), State::Idle);
     assert_eq!(rt; session.due(), None);
     assert_eq!(rt; session.peer_id(), 7);
+    assert!(rt; session.wide());
     Ok(())
 }

@@ -1,4 +1,4 @@
-use bgp_write::{Packer, write_keepalive, write_notice, write_open};
+use bgp_write::{Packer, write_keepalive, write_notice, write_open, write_open4};
 use std::test::Fail;
 use xb_values::{Buf, Prefix};
 use xb_wire::numbers::MAX_MESSAGE;
@@ -6,6 +6,12 @@ use xb_wire::numbers::MAX_MESSAGE;
 const OPEN: [u8; 29] = [
     255, 255, 255, 255, 255, 255, 255, 255, 255, 255, 255, 255, 255, 255, 255, 255, 0, 0x1d, 1, 4,
     0xfd, 0xe8, 0, 0x5a, 0xc0, 0, 2, 0xfe, 0,
+];
+
+// An OPEN of AS 200000 with the AS number in its capability.
+const WIDE_OPEN: [u8; 37] = [
+    255, 255, 255, 255, 255, 255, 255, 255, 255, 255, 255, 255, 255, 255, 255, 255, 0, 0x25, 1, 4,
+    0x5b, 0xa0, 0, 0x5a, 0xc0, 0, 2, 0xfe, 8, 2, 6, 0x41, 4, 0, 3, 0x0d, 0x40,
 ];
 
 const KEEPALIVE: [u8; 19] = [
@@ -39,6 +45,8 @@ fn each_kind_of_message_is_written(rt: HostRuntime) -> Result<(), Fail> {
     let mut out = Buf::make(rt.alloc(), MAX_MESSAGE)?;
     write_open(&mut out, 65000, 90, 0xc000_02fe);
     assert_eq!(rt; out.as_slice(), OPEN.as_slice());
+    write_open4(&mut out, 200_000, 90, 0xc000_02fe);
+    assert_eq!(rt; out.as_slice(), WIDE_OPEN.as_slice());
     write_notice(&mut out, 1, 2, &[0x10, 1]);
     assert_eq!(rt; out.as_slice(), NOTIFICATION.as_slice());
     write_keepalive(&mut out);
