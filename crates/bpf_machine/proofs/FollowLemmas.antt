@@ -8,10 +8,10 @@ use Rattle.bpf_insn.specs.Slots.{slots, insn_at, word, opcode_of, offset_of, imm
 use Rattle.bpf_insn.specs.Loading.{begins, is_start}
 use Rattle.bpf_insn.specs.Sound.{IsAccepted, IsSound, slot_after}
 use Rattle.bpf_machine.specs.Words.{low}
-use Rattle.bpf_machine.specs.Steps.{Machine, Did, goes, ends, faults, calls, reg, access_address, access_size, jump_target, jump_step, load_step, store_step, take_step}
+use Rattle.bpf_machine.specs.Steps.{Machine, Did, goes, ends, faults, calls, reg, access_address, access_size, jump_target, jump_step, load_step, store_step, insn_step, take_step}
 use Rattle.bpf_machine.specs.Does.{machine}
 use Rattle.bpf_insn.proofs.LoadLemmas.{begins-jump}
-use Rattle.bpf_machine.proofs.StepLemmas.{take_step-arithmetic, take_step-jump, take_step-wide, take_step-load, take_step-store, take_step-register_store}
+use Rattle.bpf_machine.proofs.StepLemmas.{take_step-insn_step, insn_step-arithmetic, insn_step-jump, insn_step-wide, insn_step-load, insn_step-store, insn_step-register_store}
 use Rattle.bpf_insn.specs.Forms.{class, operation, is_opcode, is_call, is_exit, is_ja, has_target}
 
 -- the opcodes of a class
@@ -122,16 +122,16 @@ module _ (code : List ℕ) (slot : ℕ) (sound : IsSound code slot) where
         let i = insn_at code slot in
         let m = machine regs memory slot in
         let next : begins code (slot + 1) ≡ true = plain c (sym is) n0 n5 n6 in
-        let into = λ (d : Did) (e : take_step code m ≡ d) (h : Follows code slot d). subst (λ (x : Did). Follows code slot x) (sym e) h in
+        let into = λ (d : Did) (e : insn_step i m ≡ d) (h : Follows code slot d). subst (λ (x : Did). Follows code slot x) (sym (take_step-insn_step code regs slot memory i refl ∙ e)) h in
         elim (cases_eq c 1) [
-          | inl e ↦ into _ (take_step-load code regs slot memory i c refl is e) (load_follows m (load memory (access_address regs i.src i) (access_size i.opcode)) next)
+          | inl e ↦ into _ (insn_step-load regs slot memory i c is e) (load_follows m (load memory (access_address regs i.src i) (access_size i.opcode)) next)
           | inr n1 ↦ elim (cases_eq c 2) [
-            | inl e ↦ into _ (take_step-store code regs slot memory i c refl is e) (store_follows m (store memory (access_address regs i.dst i) (access_size i.opcode) i.imm) next)
+            | inl e ↦ into _ (insn_step-store regs slot memory i c is e) (store_follows m (store memory (access_address regs i.dst i) (access_size i.opcode) i.imm) next)
             | inr n2 ↦ elim (cases_eq c 3) [
-              | inl e ↦ into _ (take_step-register_store code regs slot memory i c refl is e) (store_follows m (store memory (access_address regs i.dst i) (access_size i.opcode) (reg regs i.src)) next)
+              | inl e ↦ into _ (insn_step-register_store regs slot memory i c is e) (store_follows m (store memory (access_address regs i.dst i) (access_size i.opcode) (reg regs i.src)) next)
               | inr n3 ↦
                   let last : (c ≡ 4) ⊎ (c ≡ 7) = grind arith in
-                  into _ (take_step-arithmetic code regs slot memory i c refl is last) (goes_follows _ next)
+                  into _ (insn_step-arithmetic regs slot memory i c is last) (goes_follows _ next)
             ]
           ]
         ]
@@ -142,13 +142,13 @@ module _ (code : List ℕ) (slot : ℕ) (sound : IsSound code slot) where
         let i = insn_at code slot in
         let m = machine regs memory slot in
         let c = class (opcode_of code slot) in
-        let into = λ (d : Did) (e : take_step code m ≡ d) (h : Follows code slot d). subst (λ (x : Did). Follows code slot x) (sym e) h in
+        let into = λ (d : Did) (e : insn_step i m ≡ d) (h : Follows code slot d). subst (λ (x : Did). Follows code slot x) (sym (take_step-insn_step code regs slot memory i refl ∙ e)) h in
         elim (cases_eq c 0) [
-          | inl e ↦ into _ (take_step-wide code regs slot memory i c refl refl e) (goes_follows _ (wide e))
+          | inl e ↦ into _ (insn_step-wide regs slot memory i c refl e) (goes_follows _ (wide e))
           | inr n0 ↦ elim (cases_eq c 5) [
-            | inl e ↦ into _ (take_step-jump code regs slot memory i c refl refl (inl e)) (jump_follows regs memory (inl e))
+            | inl e ↦ into _ (insn_step-jump regs slot memory i c refl (inl e)) (jump_follows regs memory (inl e))
             | inr n5 ↦ elim (cases_eq c 6) [
-              | inl e ↦ into _ (take_step-jump code regs slot memory i c refl refl (inr e)) (jump_follows regs memory (inr e))
+              | inl e ↦ into _ (insn_step-jump regs slot memory i c refl (inr e)) (jump_follows regs memory (inr e))
               | inr n6 ↦ by_class regs memory c refl n0 n5 n6
             ]
           ]

@@ -32,40 +32,41 @@ computed-32 i x y c code offset r c_is other code_is ordinary offset_is r_is =
 pub Does-same : (d e : Did) (s : Step) (before after : List ℕ) (old new : Memory) → e ≡ d → Does d s before after old new → Does e s before after old new
 Does-same d e s before after old new same h = subst (λ (x : Did). Does x s before after old new) (sym same) h
 
--- the instruction at a slot, by its class
-module _ (code regs : List ℕ) (slot : ℕ) (memory : Memory) (i : Insn) (c : ℕ) (here : i ≡ insn_at code slot) (c_is : c ≡ class i.opcode) where
-  take_step-insn_step : take_step code (machine regs memory slot) ≡ insn_step i (machine regs memory slot)
-  unfolding take_step
-  take_step-insn_step = ap (λ (x : Insn). insn_step x (machine regs memory slot)) (sym here)
+-- the instruction at a slot
+pub take_step-insn_step : (code regs : List ℕ) (slot : ℕ) (memory : Memory) (i : Insn) → i ≡ insn_at code slot → take_step code (machine regs memory slot) ≡ insn_step i (machine regs memory slot)
+unfolding take_step
+take_step-insn_step code regs slot memory i here = ap (λ (x : Insn). insn_step x (machine regs memory slot)) (sym here)
 
+-- an instruction, by its class
+module _ (regs : List ℕ) (slot : ℕ) (memory : Memory) (i : Insn) (c : ℕ) (c_is : c ≡ class i.opcode) where
   -- classes ALU and ALU64
-  pub take_step-arithmetic : (c ≡ 4) ⊎ (c ≡ 7) → take_step code (machine regs memory slot) ≡ set_step (machine regs memory slot) i.dst (computed i (reg regs i.dst) (operand regs i)) (slot + 1)
-  take_step-arithmetic cases =
-      take_step-insn_step ∙ elim cases [
+  pub insn_step-arithmetic : (c ≡ 4) ⊎ (c ≡ 7) → insn_step i (machine regs memory slot) ≡ set_step (machine regs memory slot) i.dst (computed i (reg regs i.dst) (operand regs i)) (slot + 1)
+  insn_step-arithmetic cases =
+      elim cases [
         | inl four ↦ rw (sym c_is ∙ four) refl
         | inr seven ↦ rw (sym c_is ∙ seven) refl
       ]
 
   -- classes JMP and JMP32
-  pub take_step-jump : (c ≡ 5) ⊎ (c ≡ 6) → take_step code (machine regs memory slot) ≡ jump_step (machine regs memory slot) i
-  take_step-jump cases =
-      take_step-insn_step ∙ elim cases [
+  pub insn_step-jump : (c ≡ 5) ⊎ (c ≡ 6) → insn_step i (machine regs memory slot) ≡ jump_step (machine regs memory slot) i
+  insn_step-jump cases =
+      elim cases [
         | inl five ↦ rw (sym c_is ∙ five) refl
         | inr six ↦ rw (sym c_is ∙ six) refl
       ]
 
   -- class LD
-  pub take_step-wide : c ≡ 0 → take_step code (machine regs memory slot) ≡ goes (machine (slice_set regs i.dst i.imm) memory (slot + 2))
-  take_step-wide zero_c = take_step-insn_step ∙ rw (sym c_is ∙ zero_c) refl
+  pub insn_step-wide : c ≡ 0 → insn_step i (machine regs memory slot) ≡ goes (machine (slice_set regs i.dst i.imm) memory (slot + 2))
+  insn_step-wide zero_c = rw (sym c_is ∙ zero_c) refl
 
   -- class LDX
-  pub take_step-load : c ≡ 1 → take_step code (machine regs memory slot) ≡ load_step (machine regs memory slot) i (load memory (access_address regs i.src i) (access_size i.opcode))
-  take_step-load one = take_step-insn_step ∙ rw (sym c_is ∙ one) refl
+  pub insn_step-load : c ≡ 1 → insn_step i (machine regs memory slot) ≡ load_step (machine regs memory slot) i (load memory (access_address regs i.src i) (access_size i.opcode))
+  insn_step-load one = rw (sym c_is ∙ one) refl
 
   -- class ST
-  pub take_step-store : c ≡ 2 → take_step code (machine regs memory slot) ≡ store_step (machine regs memory slot) (store memory (access_address regs i.dst i) (access_size i.opcode) i.imm)
-  take_step-store two = take_step-insn_step ∙ rw (sym c_is ∙ two) refl
+  pub insn_step-store : c ≡ 2 → insn_step i (machine regs memory slot) ≡ store_step (machine regs memory slot) (store memory (access_address regs i.dst i) (access_size i.opcode) i.imm)
+  insn_step-store two = rw (sym c_is ∙ two) refl
 
   -- class STX
-  pub take_step-register_store : c ≡ 3 → take_step code (machine regs memory slot) ≡ store_step (machine regs memory slot) (store memory (access_address regs i.dst i) (access_size i.opcode) (reg regs i.src))
-  take_step-register_store three = take_step-insn_step ∙ rw (sym c_is ∙ three) refl
+  pub insn_step-register_store : c ≡ 3 → insn_step i (machine regs memory slot) ≡ store_step (machine regs memory slot) (store memory (access_address regs i.dst i) (access_size i.opcode) (reg regs i.src))
+  insn_step-register_store three = rw (sym c_is ∙ three) refl

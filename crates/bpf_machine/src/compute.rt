@@ -17,6 +17,7 @@ use bpf_insn::opcodes::{
 };
 
 // The result of MOV in 64 bits.
+#[inline(always)]
 fn moved_64(offset: u64, y: u64) -> u64
     ensures { result ≡ moved 64 offset y }
 {
@@ -29,6 +30,7 @@ fn moved_64(offset: u64, y: u64) -> u64
 }
 
 // The result of MOV in 32 bits.
+#[inline(always)]
 fn moved_32(offset: u64, y: u32) -> u32
     ensures { result ≡ moved 32 offset y }
 {
@@ -41,6 +43,7 @@ fn moved_32(offset: u64, y: u32) -> u32
 
 // A quotient of 64 bits, with or without signs.
 #[tactic(auto, unfolding(crate::specs::Words::result_of))]
+#[inline(always)]
 fn quotient_64(offset: u64, x: u64, y: u64) -> u64
     ensures { result ≡ result_of 64 DIV offset x y }
 {
@@ -55,6 +58,7 @@ fn quotient_64(offset: u64, x: u64, y: u64) -> u64
 
 // A quotient of 32 bits, with or without signs.
 #[tactic(auto, unfolding(crate::specs::Words::result_of))]
+#[inline(always)]
 fn quotient_32(offset: u64, x: u32, y: u32) -> u32
     ensures { result ≡ result_of 32 DIV offset x y }
 {
@@ -69,6 +73,7 @@ fn quotient_32(offset: u64, x: u32, y: u32) -> u32
 
 // A remainder of 64 bits, with or without signs.
 #[tactic(auto, unfolding(crate::specs::Words::result_of))]
+#[inline(always)]
 fn remainder_64(offset: u64, x: u64, y: u64) -> u64
     ensures { result ≡ result_of 64 MOD offset x y }
 {
@@ -83,6 +88,7 @@ fn remainder_64(offset: u64, x: u64, y: u64) -> u64
 
 // A remainder of 32 bits, with or without signs.
 #[tactic(auto, unfolding(crate::specs::Words::result_of))]
+#[inline(always)]
 fn remainder_32(offset: u64, x: u32, y: u32) -> u32
     ensures { result ≡ result_of 32 MOD offset x y }
 {
@@ -97,6 +103,7 @@ fn remainder_32(offset: u64, x: u32, y: u32) -> u32
 
 // The result of an operation in 64 bits; the last one is ARSH.
 #[tactic(auto, unfolding(crate::specs::Words::result_of))]
+#[inline(always)]
 fn result_64(operation: u8, offset: u64, x: u64, y: u64) -> u64
     ensures { result ≡ result_of 64 operation offset x y }
 {
@@ -119,6 +126,7 @@ fn result_64(operation: u8, offset: u64, x: u64, y: u64) -> u64
 
 // The result of an operation in 32 bits; the last one is ARSH.
 #[tactic(auto, unfolding(crate::specs::Words::result_of))]
+#[inline(always)]
 fn result_32(operation: u8, offset: u64, x: u32, y: u32) -> u32
     ensures { result ≡ result_of 32 operation offset x y }
 {
@@ -141,6 +149,7 @@ fn result_32(operation: u8, offset: u64, x: u32, y: u32) -> u32
 
 // The result of END.
 #[tactic(auto, unfolding(crate::specs::Words::converted))]
+#[inline(always)]
 fn converted(opcode: u8, bits: u32, x: u64) -> u64
     ensures { result ≡ converted opcode bits x }
 {
@@ -152,6 +161,7 @@ fn converted(opcode: u8, bits: u32, x: u64) -> u64
 }
 
 // The result of an operation on the low 32 bits, in 64; the upper 32 bits are 0.
+#[inline(always)]
 fn result_low(operation: u8, offset: u64, x: u64, y: u64) -> u64
     ensures { result ≡ result_of 32 operation offset (low 32 x) (low 32 y) }
 {
@@ -160,6 +170,7 @@ fn result_low(operation: u8, offset: u64, x: u64, y: u64) -> u64
 
 // The result of arithmetic on the destination and the second operand.
 #[tactic(auto, unfolding(crate::specs::Steps::computed))]
+#[inline(always)]
 pub(crate) fn computed(insn: Insn, x: u64, y: u64) -> u64
     ensures { result ≡ computed insn x y }
 {
@@ -177,6 +188,7 @@ pub(crate) fn computed(insn: Insn, x: u64, y: u64) -> u64
 
 // Whether a comparison of 64 bits holds; the last one is JSLE.
 #[tactic(auto, unfolding(crate::specs::Words::comparison_holds))]
+#[inline(always)]
 fn comparison_64(operation: u8, x: u64, y: u64) -> bool
     ensures { result ≡ comparison_holds 64 operation x y }
 {
@@ -197,6 +209,7 @@ fn comparison_64(operation: u8, x: u64, y: u64) -> bool
 
 // Whether a comparison of 32 bits holds; the last one is JSLE.
 #[tactic(auto, unfolding(crate::specs::Words::comparison_holds))]
+#[inline(always)]
 fn comparison_32(operation: u8, x: u32, y: u32) -> bool
     ensures { result ≡ comparison_holds 32 operation x y }
 {
@@ -217,6 +230,7 @@ fn comparison_32(operation: u8, x: u32, y: u32) -> bool
 
 // Whether a conditional jump is taken.
 #[tactic(auto, unfolding(crate::specs::Steps::is_taken))]
+#[inline(always)]
 pub(crate) fn is_taken(insn: Insn, x: u64, y: u64) -> bool
     ensures { result ≡ is_taken insn x y }
 {
@@ -229,6 +243,7 @@ pub(crate) fn is_taken(insn: Insn, x: u64, y: u64) -> bool
 }
 
 // The number of octets of a load or a store.
+#[inline(always)]
 pub(crate) fn access_size(opcode: u8) -> usize
     ensures value { result ≡ access_size opcode }
     ensures size { IsAccessSize result }
@@ -243,6 +258,7 @@ pub(crate) fn access_size(opcode: u8) -> usize
 
 // The result of a load of a number.
 #[tactic(auto, unfolding(crate::specs::Steps::load_result))]
+#[inline(always)]
 pub(crate) fn load_result(opcode: u8, n: u64) -> u64
     ensures { result ≡ load_result opcode n }
 {

@@ -6,6 +6,7 @@ ghost use Rattle.bpf_machine.specs.Words.{low, extended, signed_quotient, signed
 use bpf_insn::Insn;
 
 // The low 8 bits.
+#[inline(always)]
 pub(crate) fn low_8(n: u64) -> u8
     ensures { result ≡ low 8 n }
 {
@@ -13,6 +14,7 @@ pub(crate) fn low_8(n: u64) -> u8
 }
 
 // The low 16 bits.
+#[inline(always)]
 pub(crate) fn low_16(n: u64) -> u16
     ensures { result ≡ low 16 n }
 {
@@ -20,6 +22,7 @@ pub(crate) fn low_16(n: u64) -> u16
 }
 
 // The low 32 bits.
+#[inline(always)]
 pub(crate) fn low_32(n: u64) -> u32
     ensures { result ≡ low 32 n }
 {
@@ -27,6 +30,7 @@ pub(crate) fn low_32(n: u64) -> u32
 }
 
 // The low 8 bits with their sign, in 64.
+#[inline(always)]
 pub(crate) fn extended_8(n: u64) -> u64
     ensures { result ≡ extended 8 64 n }
 {
@@ -34,6 +38,7 @@ pub(crate) fn extended_8(n: u64) -> u64
 }
 
 // The low 16 bits with their sign, in 64.
+#[inline(always)]
 pub(crate) fn extended_16(n: u64) -> u64
     ensures { result ≡ extended 16 64 n }
 {
@@ -41,6 +46,7 @@ pub(crate) fn extended_16(n: u64) -> u64
 }
 
 // The low 32 bits with their sign, in 64.
+#[inline(always)]
 pub(crate) fn extended_32(n: u64) -> u64
     ensures { result ≡ extended 32 64 n }
 {
@@ -48,6 +54,7 @@ pub(crate) fn extended_32(n: u64) -> u64
 }
 
 // The low 8 bits with their sign, in 32.
+#[inline(always)]
 pub(crate) fn short_8(n: u32) -> u32
     ensures { result ≡ extended 8 32 n }
 {
@@ -55,6 +62,7 @@ pub(crate) fn short_8(n: u32) -> u32
 }
 
 // The low 16 bits with their sign, in 32.
+#[inline(always)]
 pub(crate) fn short_16(n: u32) -> u32
     ensures { result ≡ extended 16 32 n }
 {
@@ -62,6 +70,7 @@ pub(crate) fn short_16(n: u32) -> u32
 }
 
 // A signed quotient of 64 bits.
+#[inline(always)]
 pub(crate) fn signed_quotient_64(x: u64, y: u64) -> u64
     ensures { result ≡ signed_quotient 64 x y }
 {
@@ -74,6 +83,7 @@ pub(crate) fn signed_quotient_64(x: u64, y: u64) -> u64
 }
 
 // A signed quotient of 32 bits.
+#[inline(always)]
 pub(crate) fn signed_quotient_32(x: u32, y: u32) -> u32
     ensures { result ≡ signed_quotient 32 x y }
 {
@@ -86,6 +96,7 @@ pub(crate) fn signed_quotient_32(x: u32, y: u32) -> u32
 }
 
 // A signed remainder of 64 bits.
+#[inline(always)]
 pub(crate) fn signed_remainder_64(x: u64, y: u64) -> u64
     ensures { result ≡ signed_remainder 64 x y }
 {
@@ -98,6 +109,7 @@ pub(crate) fn signed_remainder_64(x: u64, y: u64) -> u64
 }
 
 // A signed remainder of 32 bits.
+#[inline(always)]
 pub(crate) fn signed_remainder_32(x: u32, y: u32) -> u32
     ensures { result ≡ signed_remainder 32 x y }
 {
@@ -110,6 +122,7 @@ pub(crate) fn signed_remainder_32(x: u32, y: u32) -> u32
 }
 
 // A shift of 64 bits that keeps the sign.
+#[inline(always)]
 pub(crate) fn shifted_signed_64(x: u64, k: u64) -> u64
     requires { k < 64 }
     ensures { result ≡ shifted_signed 64 x k }
@@ -118,6 +131,7 @@ pub(crate) fn shifted_signed_64(x: u64, k: u64) -> u64
 }
 
 // A shift of 32 bits that keeps the sign.
+#[inline(always)]
 pub(crate) fn shifted_signed_32(x: u32, k: u32) -> u32
     requires { k < 32 }
     ensures { result ≡ shifted_signed 32 x k }
@@ -126,6 +140,7 @@ pub(crate) fn shifted_signed_32(x: u32, k: u32) -> u32
 }
 
 // Whether one number of 64 bits is below another, with their signs.
+#[inline(always)]
 pub(crate) fn is_below_64(x: u64, y: u64) -> bool
     ensures { result ≡ is_below 64 x y }
 {
@@ -133,6 +148,7 @@ pub(crate) fn is_below_64(x: u64, y: u64) -> bool
 }
 
 // Whether one number of 32 bits is below another, with their signs.
+#[inline(always)]
 pub(crate) fn is_below_32(x: u32, y: u32) -> bool
     ensures { result ≡ is_below 32 x y }
 {
@@ -140,6 +156,7 @@ pub(crate) fn is_below_32(x: u32, y: u32) -> bool
 }
 
 // The low 16, 32 or 64 bits.
+#[inline(always)]
 pub(crate) fn low_bits(bits: u32, x: u64) -> u64
     ensures { result ≡ low_bits bits x }
 {
@@ -151,6 +168,7 @@ pub(crate) fn low_bits(bits: u32, x: u64) -> u64
 }
 
 // The low 16, 32 or 64 bits with their octets in the other order.
+#[inline(always)]
 pub(crate) fn swapped_octets(bits: u32, x: u64) -> u64
     ensures { result ≡ swapped_octets bits x }
 {
@@ -162,6 +180,7 @@ pub(crate) fn swapped_octets(bits: u32, x: u64) -> u64
 }
 
 // An offset with its sign, in 64 bits.
+#[inline(always)]
 pub(crate) fn offset_word(insn: Insn) -> u64
     ensures { result ≡ word insn.offset }
 {
