@@ -8,7 +8,7 @@ use Rattle.std.specs.List.{list_any}
 use Rattle.xb_words.specs.Octets.{AreOctets}
 use Rattle.xb_words.proofs.ListLemmas.{AllByRecursion-right}
 use Rattle.bgp_attr.specs.Paths.{first_number, number_octets, numbers_of}
-use Rattle.bgp_path.specs.Parts.{width_of}
+use Rattle.bgp_attr.specs.Paths.{width_of}
 
 -- octets without the first n are octets
 pub AreOctets-drop : (n : ℕ) (s : List ℕ) → AreOctets s → AreOctets (drop n s)

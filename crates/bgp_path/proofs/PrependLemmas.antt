@@ -1,44 +1,25 @@
 -- Lemmas on the octets of a path, also with an AS number prepended.
-use Rattle.std.proofs.Common.{◌≡◌, refl, sym, ap, ◌∙◌, subst, ℕ, zero, suc, ◌+◌, ◌*◌, ◌<◌, ◌≤◌, Bool, true, false, Some, None, List, [], ◌∷◌, ◌++◌, length, take, drop, flat_map, append_assoc, arith}
+use Rattle.std.proofs.Common.{◌≡◌, refl, sym, ap, ◌∙◌, subst, ℕ, suc, ◌+◌, ◌*◌, ◌<◌, ◌≤◌, Bool, true, false, Some, None, List, [], ◌∷◌, ◌++◌, length, drop, flat_map, append_assoc, arith}
 use Rattle.std.proofs.lemmas.List.{length-append, append-nil, drop_at}
 use Rattle.std.proofs.lemmas.Bool.{le-leb}
-use Rattle.std.specs.Prelude.{◌||◌, ◌&&◌, ◌==◌, nat_le, slice_index, if◌then◌else◌}
+use Rattle.std.specs.Prelude.{◌||◌, ◌&&◌, ◌==◌, nat_le, if◌then◌else◌}
 use Rattle.xb_words.specs.Octets.{AreOctets}
 use Rattle.xb_words.proofs.ListLemmas.{AllByRecursion-left, AllByRecursion-right}
 use Rattle.xb_words.specs.Cut.{cut}
 use Rattle.bgp_attr.specs.declared.segments.TheConstants.{AS_SET, AS_SEQUENCE, MAX_NUMBERS}
 use Rattle.bgp_attr.specs.Paths.{Segment, segment_size, path, path_ok, path_octets, segment_octets, number_octets, numbers_of, prepend}
 use Rattle.bgp_attr.proofs.PathsLemmas.{segments_rest-some}
-use Rattle.bgp_path.specs.Parts.{Part, part_octets, path_parts, part_segment, segments_join, width_of}
+use Rattle.bgp_path.specs.Parts.{Part, part_octets, path_parts, part_segment, segments_join}
+use Rattle.bgp_attr.specs.Paths.{width_of}
 use Rattle.bgp_path.specs.Splits.{HasNoSegment, BeginsWith}
 use Rattle.bgp_path.proofs.NumbersLemmas.{length-numbers_of, flat_map-numbers_of}
-use Rattle.bgp_path.proofs.SplitsLemmas.{BeginsWith-front, HasNoSegment-empty}
-
--- the length of a path's first segment, and that segment
-abbrev front_len : ℕ → List ℕ → ℕ
-front_len w s = 2 + w * slice_index s 1
-
-abbrev front : ℕ → List ℕ → Part
-front w s = record { set = slice_index (take (front_len w s) s) 0 == AS_SET; count = slice_index s 1; octets = drop 2 (take (front_len w s) s) }
-
--- the path after a first segment is shorter
-shorter : (w : ℕ) (s : List ℕ) (p : Part) (rest : List ℕ) (n : ℕ) → BeginsWith w s p rest → length s ≤ suc n → length rest ≤ n
-shorter w s p rest n split h = let whole = ap length split.joined in omega (arith, whole, h, length-append p.octets rest)
-
-joins : (n w : ℕ) (s : List ℕ) → length s ≤ n → path_ok w s ≡ true → flat_map part_octets (path_parts w s) ≡ s
-joins n w [] h ok = ap (flat_map part_octets) ((HasNoSegment-empty w [] refl).pieces)
-joins zero w (b ∷ s) h ok = absurd (omega (arith, h))
-joins (suc n) w (b ∷ s) h ok =
-    let v = b ∷ s in
-    let k = front_len w v in
-    let split = BeginsWith-front w v k ok (omega arith) refl in
-    let p = front w v in
-    ap (flat_map part_octets) split.pieces
-    ∙ ap (λ t. part_octets p ++ t) (joins n w (drop k v) (shorter w v p (drop k v) n split h) split.ok)
-    ∙ split.joined
+use Rattle.bgp_path.proofs.SplitsLemmas.{HasNoSegment-empty, by_segments}
 
 pub segments_join_holds : segments_join
-segments_join_holds w value ok = joins (length value) w value (omega arith) ok
+segments_join_holds w value ok =
+    by_segments w (λ s. flat_map part_octets (path_parts w s) ≡ s) (ap (flat_map part_octets) ((HasNoSegment-empty w [] refl).pieces))
+    (λ s p rest split later. ap (flat_map part_octets) split.pieces ∙ ap (λ t. part_octets p ++ t) later ∙ split.joined)
+    value ok
 
 -- the octets of a segment that was read from octets
 pub segment_octets-part_segment : (wide : Bool) (p : Part) → length p.octets ≡ width_of wide * p.count → AreOctets p.octets → segment_octets (width_of wide) (part_segment (width_of wide) p) ≡ part_octets p
@@ -48,26 +29,19 @@ segment_octets-part_segment wide p e o =
     ∙ ap (λ t. (if p.set then AS_SET else AS_SEQUENCE) ∷ p.count ∷ t) (flat_map-numbers_of wide p.count p.octets e o)
 
 -- the octets of a path that was read from octets
-octets_path : (n : ℕ) (wide : Bool) (s : List ℕ) → length s ≤ n → AreOctets s → path_ok (width_of wide) s ≡ true → path_octets (width_of wide) (path (width_of wide) s) ≡ s
-octets_path n wide [] h o ok = ap (path_octets (width_of wide)) ((HasNoSegment-empty (width_of wide) [] refl).segments)
-octets_path zero wide (b ∷ s) h o ok = absurd (omega (arith, h))
-octets_path (suc n) wide (b ∷ s) h o ok =
-    let v = b ∷ s in
-    let w = width_of wide in
-    let k = front_len w v in
-    let split = BeginsWith-front w v k ok (omega arith) refl in
-    let P : List ℕ → Type 0 = λ t. AreOctets t in
-    let p = front w v in
-    let joined : AreOctets (part_octets p ++ drop k v) = subst P (sym split.joined) o in
-    let first = AllByRecursion-left (λ b. b < 256) (part_octets p) (drop k v) joined in
-    let later = AllByRecursion-right (λ b. b < 256) (part_octets p) (drop k v) joined in
-    ap (path_octets w) split.segments
-    ∙ ap (λ t. t ++ path_octets w (path w (drop k v))) (segment_octets-part_segment wide p split.octets first.1.1)
-    ∙ ap (λ t. part_octets p ++ t) (octets_path n wide (drop k v) (shorter w v p (drop k v) n split h) later split.ok)
-    ∙ split.joined
-
 pub path_octets-path : (wide : Bool) (s : List ℕ) → AreOctets s → path_ok (width_of wide) s ≡ true → path_octets (width_of wide) (path (width_of wide) s) ≡ s
-path_octets-path wide s o ok = octets_path (length s) wide s (omega arith) o ok
+path_octets-path wide s o ok =
+    let w = width_of wide in
+    by_segments w (λ t. AreOctets t → path_octets w (path w t) ≡ t) (λ none. ap (path_octets w) ((HasNoSegment-empty w [] refl).segments))
+    (λ t p rest split later octets.
+    let P : List ℕ → Type 0 = λ l. AreOctets l in
+    let joined : AreOctets (part_octets p ++ rest) = subst P (sym split.joined) octets in
+    let first = AllByRecursion-left (λ b. b < 256) (part_octets p) rest joined in
+    ap (path_octets w) split.segments
+    ∙ ap (λ l. l ++ path_octets w (path w rest)) (segment_octets-part_segment wide p split.octets first.1.1)
+    ∙ ap (λ l. part_octets p ++ l) (later (AllByRecursion-right (λ b. b < 256) (part_octets p) rest joined))
+    ∙ split.joined)
+    s ok o
 
 -- the octets of a path after a new sequence of one AS number
 pub path_octets-prepend-new : (wide : Bool) (s : List ℕ) (asn : ℕ) → AreOctets s → path_ok (width_of wide) s ≡ true
@@ -127,15 +101,20 @@ pub length-number_octets : (wide : Bool) (asn : ℕ) → length (number_octets (
 length-number_octets true asn = refl
 length-number_octets false asn = refl
 
--- a path after a sequence is a path
-path_ok-sequence : (w count : ℕ) (numbers rest : List ℕ) → 0 < count → length numbers ≡ w * count
-    → path_ok w (AS_SEQUENCE ∷ count ∷ (numbers ++ rest)) ≡ path_ok w rest
-path_ok-sequence w count numbers rest some whole =
-    let s = AS_SEQUENCE ∷ count ∷ (numbers ++ rest) in
+-- a path after a segment is a path
+kind_fits : (set : Bool) → ((if set then AS_SET else AS_SEQUENCE) == AS_SET || (if set then AS_SET else AS_SEQUENCE) == AS_SEQUENCE) ≡ true
+kind_fits true = refl
+kind_fits false = refl
+
+pub path_ok-segment : (w : ℕ) (set : Bool) (count : ℕ) (numbers rest : List ℕ) → 0 < count → length numbers ≡ w * count
+    → path_ok w ((if set then AS_SET else AS_SEQUENCE) ∷ count ∷ (numbers ++ rest)) ≡ path_ok w rest
+path_ok-segment w set count numbers rest some whole =
+    let s = (if set then AS_SET else AS_SEQUENCE) ∷ count ∷ (numbers ++ rest) in
     let x = w * count in
     let fits : 2 + x ≤ length s = omega (arith, whole, length-append numbers rest) in
     let size : segment_size w s ≡ Some (2 + x) =
-    ap (λ b. if b && nat_le (2 + x) (length s) then Some (2 + x) else None) (le-leb 1 count some)
+    ap (λ b. if (b && nat_le 1 count) && nat_le (2 + x) (length s) then Some (2 + x) else None) (kind_fits set)
+    ∙ ap (λ b. if b && nat_le (2 + x) (length s) then Some (2 + x) else None) (le-leb 1 count some)
     ∙ ap (λ b. if b then Some (2 + x) else None) (le-leb (2 + x) (length s) fits) in
     let two : 2 + x ≡ suc (suc x) = omega arith in
     let drops : drop (2 + x) s ≡ rest = ap (λ n. drop n s) two ∙ drop_at numbers rest x whole in
@@ -146,7 +125,7 @@ pub path_ok-prepend-new : (wide : Bool) (asn : ℕ) (s : List ℕ) → path_ok (
     → path_ok (width_of wide) (AS_SEQUENCE ∷ 1 ∷ number_octets (width_of wide) asn ++ s) ≡ true
 path_ok-prepend-new wide asn s ok =
     let w = width_of wide in
-    path_ok-sequence w 1 (number_octets w asn) s (omega arith) (length-number_octets wide asn ∙ omega arith) ∙ ok
+    path_ok-segment w false 1 (number_octets w asn) s (omega arith) (length-number_octets wide asn ∙ omega arith) ∙ ok
 
 -- a path whose first sequence has one AS number more is a path
 pub path_ok-prepend-open : (wide : Bool) (asn : ℕ) (s : List ℕ) (p : Part) (rest : List ℕ) → BeginsWith (width_of wide) s p rest
@@ -158,7 +137,7 @@ path_ok-prepend-open wide asn s p rest split =
     length-append number p.octets ∙ omega (arith, length-number_octets wide asn, split.octets) in
     ap (λ t. path_ok w (AS_SEQUENCE ∷ (p.count + 1) ∷ (number ++ drop 2 t))) (sym split.joined)
     ∙ ap (λ t. path_ok w (AS_SEQUENCE ∷ (p.count + 1) ∷ t)) (sym (append_assoc number p.octets rest))
-    ∙ path_ok-sequence w (p.count + 1) (number ++ p.octets) rest (omega arith) longer
+    ∙ path_ok-segment w false (p.count + 1) (number ++ p.octets) rest (omega arith) longer
     ∙ split.ok
 
 -- the length of a text that begins with a sequence's header and an AS number

@@ -2,7 +2,7 @@
 use Rattle.std.proofs.Common.{◌≡◌, refl, sym, ap, ◌∙◌, subst, ℕ, zero, suc, ◌+◌, ◌*◌, ◌<◌, ◌≤◌, Bool, true, false, List, [], ◌∷◌, ◌++◌, length, take, drop, map, Some, None, arith}
 use Rattle.std.proofs.lemmas.Bool.{and_parts, eqb-true, leb-true}
 use Rattle.std.proofs.lemmas.Bool.Decides.{nat_tests}
-use Rattle.std.proofs.lemmas.List.{length-take-le, take-append-drop}
+use Rattle.std.proofs.lemmas.List.{length-append, length-take-le, take-append-drop}
 use Rattle.std.proofs.lemmas.List.Sums.{sum_by-cons}
 use Rattle.std.specs.Prelude.{◌&&◌, ◌||◌, ◌==◌, nat_le, slice_index, if◌then◌else◌}
 use Rattle.std.specs.List.{list_any}
@@ -71,6 +71,28 @@ pub HasNoSegment-empty : (w : ℕ) (s : List ℕ) → length s ≡ 0 → HasNoSe
 unfolding path_parts cut
 HasNoSegment-empty w [] e = record { pieces = refl; segments = refl; nothing = refl }
 HasNoSegment-empty w (b ∷ s) e = absurd (omega (arith, e))
+
+shorter : (w : ℕ) (s : List ℕ) (p : Part) (rest : List ℕ) (n : ℕ) → BeginsWith w s p rest → length s ≤ suc n → length rest ≤ n
+shorter w s p rest n split h = let whole = ap length split.joined in omega (arith, whole, h, length-append p.octets rest)
+
+segments_below : (n w : ℕ) (P : List ℕ → Type 0) → P [] → ((s : List ℕ) (p : Part) (rest : List ℕ) → BeginsWith w s p rest → P rest → P s)
+    → (s : List ℕ) → length s ≤ n → path_ok w s ≡ true → P s
+segments_below n w P none more [] h ok = none
+segments_below zero w P none more (b ∷ s) h ok = absurd (omega (arith, h))
+segments_below (suc n) w P none more (b ∷ s) h ok =
+    let v = b ∷ s in
+    let k = 2 + w * slice_index v 1 in
+    let split = BeginsWith-front w v k ok (omega arith) refl in
+    more v _ (drop k v) split (segments_below n w P none more (drop k v) (shorter w v _ (drop k v) n split h) split.ok)
+
+-- what an empty path has, and a path has if the path after its first segment has it, every path has
+pub by_segments : (w : ℕ) (P : List ℕ → Type 0) → P [] → ((s : List ℕ) (p : Part) (rest : List ℕ) → BeginsWith w s p rest → P rest → P s)
+    → (s : List ℕ) → path_ok w s ≡ true → P s
+by_segments w P none more s ok = segments_below (length s) w P none more s (omega arith) ok
+
+-- a path's length, by its first segment and the path after it
+pub length-split : (w : ℕ) (s : List ℕ) (p : Part) (rest : List ℕ) → BeginsWith w s p rest → length s ≡ 2 + w * p.count + length rest
+length-split w s p rest split = let whole = ap length split.joined in omega (arith, whole, length-append p.octets rest, split.octets)
 
 -- the first segment of a path does not run past its end
 pub front_le_length : (w : ℕ) (s : List ℕ) → path_ok w s ≡ true → 0 < length s → 2 + w * slice_index s 1 ≤ length s

@@ -4,10 +4,6 @@ use Rattle.xb_words.specs.Cut.{cut}
 use Rattle.bgp_attr.specs.declared.segments.TheConstants.{AS_SET, AS_SEQUENCE}
 use Rattle.bgp_attr.specs.Paths.{Segment, segment_size, numbers_of, path, path_ok, path_octets, prepend}
 
--- the octets of an AS number: two (RFC 4271), or four (RFC 6793)
-abbrev pub width_of : Bool → ℕ
-width_of wide = if wide then 4 else 2
-
 -- a segment: whether it is a set, how many AS numbers it has, and their octets
 pub record Part : Type 0 where
   pub set : Bool

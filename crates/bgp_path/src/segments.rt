@@ -3,14 +3,15 @@ ghost use Rattle.std.specs.Prelude.{◌≡◌, ℕ, ◌≤◌, ◌+◌, ◌++◌
 ghost use Rattle.std.specs.Prelude.{is_some, length, nat_le, if◌then◌else◌};
 ghost use Rattle.bgp_attr.specs.Paths.{path_ok as is_path, number_octets, path as path_in, path_octets, prepend};
 ghost use Rattle.bgp_attr.specs.Paths.{hops as path_hops, contains as path_contains, leftmost as path_leftmost};
-ghost use Rattle.bgp_path.specs.Parts.{walk_over, path_of, prepended, width_of};
+ghost use Rattle.bgp_path.specs.Parts.{walk_over, path_of, prepended};
+ghost use Rattle.bgp_attr.specs.Paths.{width_of};
 ghost use Rattle.bgp_path.specs.Fronts.{WritesFront};
 ghost use Rattle.bgp_path.specs.Views.{segment_view};
 ghost use Rattle.bgp_path.specs.Splits.{HasNoSegment, BeginsWith};
 
 use crate::numbers::{has_number, number_at_front, width, write_number};
-use bgp_attr::path_ok;
 use bgp_attr::segments::{AS_SEQUENCE, AS_SET, MAX_NUMBERS};
+use bgp_attr::{path_ok, path_ok4};
 use std::marker::Model;
 use xb_words::copy_at;
 
@@ -36,7 +37,8 @@ pub struct Segments<'a> {
 impl<'a> Model for Segments<'a> {
     ghost use Rattle.std.specs.Prelude.{◌≡◌, ◌≤◌, true, length};
     ghost use Rattle.bgp_attr.specs.Paths.{path_ok as is_path};
-    ghost use Rattle.bgp_path.specs.Parts.{PathWalk, path_parts, width_of};
+    ghost use Rattle.bgp_path.specs.Parts.{PathWalk, path_parts};
+    ghost use Rattle.bgp_attr.specs.Paths.{width_of};
 
     ghost Value = { PathWalk };
 
@@ -48,7 +50,7 @@ impl<'a> Model for Segments<'a> {
 }
 
 // The first segment of a path, and the path after it. None if the path is empty.
-fn split_first<'a>(path: &'a [u8], wide: bool) -> Option<(Segment<'a>, &'a [u8])>
+pub(crate) fn split_first<'a>(path: &'a [u8], wide: bool) -> Option<(Segment<'a>, &'a [u8])>
     requires { is_path (width_of wide) path.now ≡ true }
     ensures splits { MatchOption result (HasNoSegment (width_of wide) path.now)
         (λ r. BeginsWith (width_of wide) path.now (segment_view r.0) r.1.now) }
@@ -68,14 +70,29 @@ fn split_first<'a>(path: &'a [u8], wide: bool) -> Option<(Segment<'a>, &'a [u8])
 }
 
 // What a segment adds to the length of a path.
-fn hops_of(segment: &Segment<'_>) -> u32
+pub(crate) fn hops_of(segment: &Segment<'_>) -> usize
     ensures { result ≡ (if segment.now.set then 1 else segment.now.count) }
 {
     if segment.set {
         1
     } else {
-        u32::from(segment.count)
+        usize::from(segment.count)
     }
+}
+
+// The length of a path: its AS numbers, a set counting 1 (RFC 4271, section 9.1.2.2).
+pub(crate) fn hops_in(path: &[u8], wide: bool) -> usize
+    requires { is_path (width_of wide) path.now ≡ true }
+    ensures hops { result ≡ path_hops (path_in (width_of wide) path.now) }
+    ensures bound { result ≤ length path.now }
+{
+    let mut hops = 0;
+    let mut rest = path;
+    'segments: while let Some((segment, after)) = split_first(rest, wide) {
+        hops += hops_of(&segment);
+        rest = after;
+    }
+    hops
 }
 
 // Whether no AS number can be prepended to those of a segment: it is a set, or full.
@@ -103,6 +120,27 @@ fn prepended_parts<'a>(path: &'a [u8], wide: bool) -> (u8, &'a [u8])
     (first.count + 1, path.split_at(2).1)
 }
 
+// A walk over a path with AS numbers of two octets, or of four.
+fn walk_from_start<'a>(value: &'a [u8], wide: bool) -> Option<Segments<'a>>
+    requires { length value.now ≤ 65535 }
+    ensures path { is_some result ≡ is_path (width_of wide) value.now }
+    ensures whole { IfSome result (λ s. s ≡ walk_over (width_of wide) value.now) }
+{
+    let ok = if wide {
+        path_ok4(value)
+    } else {
+        path_ok(value)
+    };
+    if !ok {
+        return None;
+    }
+    Some(Segments {
+        value,
+        rest: value,
+        wide,
+    })
+}
+
 impl<'a> Segments<'a> {
     /// A walk over the segments of an AS_PATH, from the first on, with AS numbers of two octets. None if segments do
     /// not fill the value (RFC 4271, section 4.3).
@@ -111,14 +149,16 @@ impl<'a> Segments<'a> {
         ensures path { is_some result ≡ is_path 2 value.now }
         ensures whole { IfSome result (λ s. s ≡ walk_over 2 value.now) }
     {
-        if !path_ok(value) {
-            return None;
-        }
-        Some(Segments {
-            value,
-            rest: value,
-            wide: false,
-        })
+        walk_from_start(value, false)
+    }
+
+    /// The same with AS numbers of four octets (RFC 6793, section 4.1).
+    pub fn wide(value: &'a [u8]) -> Option<Segments<'a>>
+        requires { length value.now ≤ 65535 }
+        ensures path { is_some result ≡ is_path 4 value.now }
+        ensures whole { IfSome result (λ s. s ≡ walk_over 4 value.now) }
+    {
+        walk_from_start(value, true)
     }
 
     /// The next segment. None after the last.
@@ -136,13 +176,7 @@ impl<'a> Segments<'a> {
     pub fn hops(&self) -> u32
         ensures { result ≡ path_hops (path_of self.now) }
     {
-        let mut hops = 0;
-        let mut rest = self.value;
-        'segments: while let Some((segment, after)) = split_first(rest, self.wide) {
-            hops += hops_of(&segment);
-            rest = after;
-        }
-        hops
+        hops_in(self.value, self.wide) as u32
     }
 
     /// Whether an AS number is in the whole path, in a set or a sequence (RFC 4271, section 9.1.2).
@@ -176,7 +210,7 @@ impl<'a> Segments<'a> {
     /// section 5.1.2). The number becomes the first of a leading sequence of fewer than 255 numbers, or else a new
     /// sequence. None if the octets do not fit: `out` is then unchanged.
     pub fn prepend_into(&self, asn: u32, out: &mut [u8]) -> Option<usize>
-        requires { asn ≤ 65535 }
+        requires { self.now.width ≡ 2 → asn ≤ 65535 }
         ensures written { WritesFront result out.old out.new (prepended self.now asn) }
         ensures bound { length (prepended self.now asn) ≤ length self.now.value + self.now.width + 2 }
         ensures path { is_path self.now.width (prepended self.now asn) ≡ true }

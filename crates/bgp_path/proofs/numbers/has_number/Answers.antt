@@ -1,5 +1,5 @@
 use Rattle.std.proofs.Common.{◌∙◌, ap, ◌<◌, drop, arith}
-use Rattle.bgp_path.specs.Parts.{width_of}
+use Rattle.bgp_attr.specs.Paths.{width_of}
 use Rattle.bgp_path.proofs.NumbersLemmas.{list_any-numbers_of-rest, length-numbers_rest}
 use Rattle.bgp_path.proofs.numbers.has_number.Goals as goal
 

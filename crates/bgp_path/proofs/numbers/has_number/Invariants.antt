@@ -2,7 +2,7 @@ use Rattle.std.proofs.Common.{◌≡◌, ◌*◌, length}
 use Rattle.std.specs.Prelude.{◌==◌}
 use Rattle.std.specs.List.{list_any}
 use Rattle.bgp_attr.specs.Paths.{numbers_of}
-use Rattle.bgp_path.specs.Parts.{width_of}
+use Rattle.bgp_attr.specs.Paths.{width_of}
 use Rattle.bgp_path.proofs.numbers.has_number.Given as goal
 
 abbrev pub invariant-numbers : goal.invariant-numbers

@@ -1,8 +1,8 @@
-use Rattle.std.proofs.Common.{◌≡◌, true, ◌∙◌, ap, ◌∷◌, ◌++◌, ◌+◌, sym}
+use Rattle.std.proofs.Common.{◌∙◌, ap, ◌∷◌, ◌++◌, ◌+◌, sym}
 use Rattle.std.proofs.Math.Facts.{Fits-lt-pow}
 use Rattle.bgp_attr.specs.declared.segments.TheConstants.{AS_SEQUENCE}
-use Rattle.bgp_attr.specs.Paths.{number_octets, path_ok}
-use Rattle.bgp_path.specs.Parts.{width_of}
+use Rattle.bgp_attr.specs.Paths.{number_octets}
+use Rattle.bgp_attr.specs.Paths.{width_of}
 use Rattle.bgp_path.specs.Views.{segment_view}
 use Rattle.bgp_path.proofs.NumbersLemmas.{AreOctets-from_get_or}
 use Rattle.bgp_path.proofs.PrependLemmas.{path_ok-prepend-new, path_ok-prepend-open, path_octets-prepend-new, prepend-full_or_set, path_octets-prepend-open, prepend-no_segment}

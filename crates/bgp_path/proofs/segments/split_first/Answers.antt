@@ -1,6 +1,6 @@
 use Rattle.std.proofs.Common.{refl, sym, ◌∙◌, ◌+◌, ◌*◌, length, get_or, arith}
 use Rattle.std.proofs.lemmas.Bool.{eqb-true}
-use Rattle.bgp_path.specs.Parts.{width_of}
+use Rattle.bgp_attr.specs.Paths.{width_of}
 use Rattle.bgp_path.proofs.SplitsLemmas.{BeginsWith-front, front_le_length, positive_from_test, HasNoSegment-empty}
 use Rattle.bgp_path.proofs.segments.split_first.Goals as goal
 

@@ -1,6 +1,6 @@
 use Rattle.std.proofs.Common.{◌≡◌, true, length}
 use Rattle.bgp_attr.specs.Paths.{path, path_ok, contains}
-use Rattle.bgp_path.specs.Parts.{width_of}
+use Rattle.bgp_attr.specs.Paths.{width_of}
 use Rattle.bgp_path.proofs.segments.Segments.contains.Given as goal
 
 abbrev pub invariant-segments : goal.invariant-segments

@@ -1,8 +1,9 @@
-use Rattle.std.proofs.Common.{◌≡◌, ◌≤◌, ◌+◌, ◌∷◌, ◌++◌, length, arith, rules}
+use Rattle.std.proofs.Common.{◌≡◌, ◌∷◌, ◌++◌, arith, rules}
 use Rattle.std.proofs.lemmas.Grind.{common_steps}
 use Rattle.bgp_attr.specs.declared.segments.TheConstants.{AS_SEQUENCE}
-use Rattle.bgp_attr.specs.Paths.{number_octets, path_ok}
-use Rattle.bgp_path.specs.Parts.{prepended, width_of}
+use Rattle.bgp_attr.specs.Paths.{number_octets}
+use Rattle.bgp_path.specs.Parts.{prepended}
+use Rattle.bgp_attr.specs.Paths.{width_of}
 use Rattle.bgp_path.proofs.PrependLemmas.{length-prepended, length-number_octets}
 use Rattle.bgp_path.proofs.segments.Segments.prepend_into.Goals as goal
 

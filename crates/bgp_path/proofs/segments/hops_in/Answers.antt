@@ -1,12 +1,12 @@
 use Rattle.std.proofs.Common.{arith}
-use Rattle.bgp_path.specs.Parts.{width_of}
+use Rattle.bgp_attr.specs.Paths.{width_of}
 use Rattle.bgp_path.specs.Views.{segment_view}
 use Rattle.bgp_path.proofs.SplitsLemmas.{counted_le, hops-split}
-use Rattle.bgp_path.proofs.segments.Segments.hops.Goals as goal
+use Rattle.bgp_path.proofs.segments.hops_in.Goals as goal
 
 pub segments-preserved : goal.segments-preserved
 segments-preserved c =
-    let w = width_of c.self.inside.wide in
+    let w = width_of c.args.wide in
     let split = c.in-Some.ensures.splits in
     let counted = hops-split w c.segments.rest.now (segment_view c.in-Some.segment) c.in-Some.after.now split in
     record {
