@@ -13,7 +13,7 @@
 ghost use Rattle.std.specs.Prelude.{◌≡◌, ◌≤◌, [], length, IfOk, IfErr, IfSome, Some, None};
 ghost use Rattle.std.specs.Option.{option_map};
 ghost use Rattle.xb_wire.specs.Views.{notice_view};
-ghost use Rattle.bgp_open.specs.Opens.{front_field, fills, open_error, parameter_fault, parameters_fault};
+ghost use Rattle.bgp_open.specs.Opens.{fixed_fault, front_field, fills, open_error, parameter_fault, parameters_fault};
 ghost use Rattle.bgp_open.specs.Opens.{judge_open, open_seen};
 
 use xb_wire::Notice;
@@ -136,6 +136,36 @@ fn fault_of_parameters(octets: &[u8]) -> Option<Notice<'static>>
     }
 }
 
+// The first fault before the parameters. The last one is a length that is not theirs.
+fn fault_before_parameters(body: &[u8], want: &OpenWant) -> Option<Notice<'static>>
+    requires { PARAMETERS ≤ length body.now }
+    ensures fault { option_map notice_view result ≡ fixed_fault body.now want.now.peer_as }
+    ensures data { IfSome result (λ n. length n.extra.now ≤ 2) }
+{
+    let hold = u16_at(body, HOLD_TIME);
+    let id = u32_at(body, IDENTIFIER);
+    if body[0] != VERSION {
+        return Some(Notice {
+            code: OPEN_MESSAGE_ERROR,
+            subcode: UNSUPPORTED_VERSION_NUMBER,
+            extra: &SUPPORTED_VERSION,
+        });
+    }
+    if u32::from(u16_at(body, MY_AS)) != want.peer_as {
+        return Some(error(BAD_PEER_AS));
+    }
+    if hold != 0 && hold < MIN_HOLD {
+        return Some(error(UNACCEPTABLE_HOLD_TIME));
+    }
+    if id == 0 {
+        return Some(error(BAD_BGP_IDENTIFIER));
+    }
+    if usize::from(body[PARAMETERS_LENGTH]) != body.len() - PARAMETERS {
+        return Some(error(UNSPECIFIC));
+    }
+    None
+}
+
 /// Reads the body of an OPEN, which has at least 10 octets after the message's header, or returns its first fault. The
 /// data of a fault is empty, except for a version other than 4: there it is the supported version, in two octets.
 #[tactic(auto, unfolding(crate::specs::Opens::judge_open))]
@@ -146,29 +176,14 @@ pub fn read_open<'a>(body: &'a [u8], want: &OpenWant) -> Result<OpenSeen, Notice
     ensures values { IfOk result (λ o. o ≡ open_seen body.now) }
     ensures data { IfErr result (λ n. length n.extra.now ≤ 2) }
 {
-    let hold = u16_at(body, HOLD_TIME);
-    let id = u32_at(body, IDENTIFIER);
-    if body[0] != VERSION {
-        return Err(Notice {
-            code: OPEN_MESSAGE_ERROR,
-            subcode: UNSUPPORTED_VERSION_NUMBER,
-            extra: &SUPPORTED_VERSION,
-        });
-    }
-    if u32::from(u16_at(body, MY_AS)) != want.peer_as {
-        return Err(error(BAD_PEER_AS));
-    }
-    if hold != 0 && hold < MIN_HOLD {
-        return Err(error(UNACCEPTABLE_HOLD_TIME));
-    }
-    if id == 0 {
-        return Err(error(BAD_BGP_IDENTIFIER));
-    }
-    if usize::from(body[PARAMETERS_LENGTH]) != body.len() - PARAMETERS {
-        return Err(error(UNSPECIFIC));
+    if let Some(notice) = fault_before_parameters(body, want) {
+        return Err(notice);
     }
     if let Some(notice) = fault_of_parameters(&body[PARAMETERS..]) {
         return Err(notice);
     }
-    Ok(OpenSeen { hold, id })
+    Ok(OpenSeen {
+        hold: u16_at(body, HOLD_TIME),
+        id: u32_at(body, IDENTIFIER),
+    })
 }
