@@ -14,7 +14,7 @@
 ghost use Rattle.std.specs.Prelude.{◌≡◌, ◌≤◌, [], length, IfOk, IfErr, IfSome, Some, None};
 ghost use Rattle.std.specs.Option.{option_map};
 ghost use Rattle.xb_wire.specs.Views.{notice_view};
-ghost use Rattle.bgp_open.specs.Opens.{front_field, fills, open_error, parameter_fault, parameters_fault};
+ghost use Rattle.bgp_open.specs.Opens.{fixed_fault, front_field, fills, open_error, parameter_fault, parameters_fault};
 ghost use Rattle.bgp_open.specs.Opens.{as_in, as_of, field_value, judge_open4, open_seen4, wide_as};
 
 use xb_wire::Notice;
@@ -194,6 +194,32 @@ fn wide_as(octets: &[u8]) -> Option<u32>
     None
 }
 
+// The first fault before the parameters other than the AS number. The last one is a length that is not theirs.
+fn fault_before_parameters(body: &[u8]) -> Option<Notice<'static>>
+    requires { PARAMETERS ≤ length body.now }
+    ensures fault { option_map notice_view result ≡ fixed_fault body.now }
+    ensures data { IfSome result (λ n. length n.extra.now ≤ 2) }
+{
+    let hold = u16_at(body, HOLD_TIME);
+    if body[0] != VERSION {
+        return Some(Notice {
+            code: OPEN_MESSAGE_ERROR,
+            subcode: UNSUPPORTED_VERSION_NUMBER,
+            extra: &SUPPORTED_VERSION,
+        });
+    }
+    if hold != 0 && hold < MIN_HOLD {
+        return Some(error(UNACCEPTABLE_HOLD_TIME));
+    }
+    if u32_at(body, IDENTIFIER) == 0 {
+        return Some(error(BAD_BGP_IDENTIFIER));
+    }
+    if usize::from(body[PARAMETERS_LENGTH]) != body.len() - PARAMETERS {
+        return Some(error(UNSPECIFIC));
+    }
+    None
+}
+
 /// Reads the body of an OPEN, which has at least 10 octets after the message's header, or returns its first fault. The
 /// data of a fault is empty, except for a version other than 4: there it is the supported version, in two octets.
 #[tactic(auto, unfolding(crate::specs::Opens::judge_open4))]
@@ -204,23 +230,8 @@ pub fn read_open4<'a>(body: &'a [u8], want: &OpenWant) -> Result<OpenSeen4, Noti
     ensures values { IfOk result (λ o. o ≡ open_seen4 body.now) }
     ensures data { IfErr result (λ n. length n.extra.now ≤ 2) }
 {
-    let hold = u16_at(body, HOLD_TIME);
-    let id = u32_at(body, IDENTIFIER);
-    if body[0] != VERSION {
-        return Err(Notice {
-            code: OPEN_MESSAGE_ERROR,
-            subcode: UNSUPPORTED_VERSION_NUMBER,
-            extra: &SUPPORTED_VERSION,
-        });
-    }
-    if hold != 0 && hold < MIN_HOLD {
-        return Err(error(UNACCEPTABLE_HOLD_TIME));
-    }
-    if id == 0 {
-        return Err(error(BAD_BGP_IDENTIFIER));
-    }
-    if usize::from(body[PARAMETERS_LENGTH]) != body.len() - PARAMETERS {
-        return Err(error(UNSPECIFIC));
+    if let Some(notice) = fault_before_parameters(body) {
+        return Err(notice);
     }
     if let Some(notice) = fault_of_parameters(&body[PARAMETERS..]) {
         return Err(notice);
@@ -230,8 +241,8 @@ pub fn read_open4<'a>(body: &'a [u8], want: &OpenWant) -> Result<OpenSeen4, Noti
         return Err(error(BAD_PEER_AS));
     }
     Ok(OpenSeen4 {
-        hold,
-        id,
+        hold: u16_at(body, HOLD_TIME),
+        id: u32_at(body, IDENTIFIER),
         wide: wide.is_some(),
     })
 }

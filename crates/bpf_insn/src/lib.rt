@@ -28,6 +28,3 @@ pub use code::{Code, load};
 pub use fault::{LoadError, LoadFault, LoadKind};
 pub use helpers::HelperSet;
 pub use insn::Insn;
-
-#[cfg(test)]
-mod tests;

@@ -24,6 +24,3 @@ mod world;
 
 pub use running::run;
 pub use world::{Called, Cause, End, Helpers};
-
-#[cfg(test)]
-mod tests;

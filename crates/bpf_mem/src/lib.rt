@@ -23,6 +23,3 @@ mod room;
 
 pub use memory::Memory;
 pub use room::Room;
-
-#[cfg(test)]
-mod tests;

@@ -1,4 +1,4 @@
-use bgp_attr::{AttrFault, Attrs, Overrun, attr_rule, path_ok};
+use bgp_attr::{Attr, AttrFault, Attrs, Overrun, attr_rule, path_ok};
 use std::test::Fail;
 
 // ORIGIN, AS_PATH and NEXT_HOP, then a header that needs one octet more than are left.
@@ -6,29 +6,55 @@ const SECTION: [u8; 22] = [
     0x40, 1, 1, 0, 0x40, 2, 4, 2, 1, 0xfd, 0xe9, 0x40, 3, 4, 192, 0, 2, 1, 0xd0, 200, 0, 1,
 ];
 
+// What a walk over it returns.
+const STEPS: [Option<Result<Attr<'static>, Overrun>>; 5] = [
+    Some(Ok(Attr {
+        flags: 0x40,
+        code: 1,
+        value: &[0],
+        raw: &[0x40, 1, 1, 0],
+        at: 0,
+    })),
+    Some(Ok(Attr {
+        flags: 0x40,
+        code: 2,
+        value: &[2, 1, 0xfd, 0xe9],
+        raw: &[0x40, 2, 4, 2, 1, 0xfd, 0xe9],
+        at: 4,
+    })),
+    Some(Ok(Attr {
+        flags: 0x40,
+        code: 3,
+        value: &[192, 0, 2, 1],
+        raw: &[0x40, 3, 4, 192, 0, 2, 1],
+        at: 11,
+    })),
+    Some(Err(Overrun { at: 18 })),
+    None,
+];
+
 #[test]
 fn a_walk_returns_parts_up_to_an_overrun(rt: HostRuntime) -> Result<(), Fail> {
     let mut attrs = Attrs::new(&SECTION);
-    let origin = attrs.next().ok_or("the end")?.ok().ok_or("an overrun")?;
-    assert_eq!(rt; origin.raw, &SECTION[..4]);
-    let path = attrs.next().ok_or("the end")?.ok().ok_or("an overrun")?;
-    assert_eq!(rt; path.at, 4);
-    assert_eq!(rt; path.flags, 0x40);
-    assert_eq!(rt; path.code, 2);
-    assert_eq!(rt; path.value, &SECTION[7..11]);
-    assert!(rt; attrs.next().is_some());
-    let step = attrs.next().ok_or("the end")?;
-    assert_eq!(rt; step.err(), Some(Overrun { at: 18 }));
-    assert!(rt; attrs.next().is_none());
+    for step in &STEPS {
+        assert_eq!(rt; attrs.next(), *step);
+    }
     Ok(())
 }
 
+// The code, the flags and the value of an attribute, and its first fault.
+const FAULTS: [(u8, u8, &[u8], Option<AttrFault>); 4] = [
+    (1, 0x40, &[0], None),
+    (1, 0x80, &[0], Some(AttrFault::Flags)),
+    (2, 0x40, &[2, 0], Some(AttrFault::Path)),
+    (200, 0x40, &[], Some(AttrFault::Unrecognized)),
+];
+
 #[test]
 fn the_first_fault_of_an_attribute_is_returned(rt: HostRuntime) {
-    assert_eq!(rt; attr_rule(1, 0x40, &[0]), None);
-    assert_eq!(rt; attr_rule(1, 0x80, &[0]), Some(AttrFault::Flags));
-    assert_eq!(rt; attr_rule(2, 0x40, &[2, 0]), Some(AttrFault::Path));
-    assert_eq!(rt; attr_rule(200, 0x40, &[]), Some(AttrFault::Unrecognized));
+    for (code, flags, value, fault) in &FAULTS {
+        assert_eq!(rt; attr_rule(*code, *flags, value), *fault, "at {code}");
+    }
 }
 
 #[test]

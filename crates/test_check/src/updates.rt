@@ -1,5 +1,6 @@
 use bgp_check::{check_section, check_update};
 use std::alloc::{AllocError, Global};
+use std::process::Abort;
 use std::test::Fail;
 use xb_wire::Notice;
 
@@ -161,45 +162,63 @@ fn notice<'a>(subcode: &str, extra: &'a [u8]) -> Option<Notice<'a>> {
     }
 }
 
+// An attribute is judged as its row says, alone and in an UPDATE.
+fn expect_attribute(rt: &(impl AllocGlobal + Abort), row: &str) -> Result<(), Fail> {
+    let (text, subcode) = row.split_once(' ').ok_or("no subcode")?;
+    let attribute = octets(rt.alloc(), text)?;
+    let body = body_of(rt.alloc(), "-", text, "-")?;
+    let told: &[u8] = if subcode == "11" { &[] } else { &attribute };
+    let wanted = notice(subcode, told);
+    let seen = (check_section(&attribute, false), check_update(&body).err());
+    assert_eq!(rt; seen, (wanted, wanted), "at {text}");
+    Ok(())
+}
+
 #[test]
 fn each_attribute_is_judged_by_its_row(rt: HostRuntime) -> Result<(), Fail> {
-    let alloc = rt.alloc();
     for row in ATTRIBUTES.lines() {
-        let (text, subcode) = row.split_once(' ').ok_or("no subcode")?;
-        let attribute = octets(alloc, text)?;
-        let body = body_of(alloc, "-", text, "-")?;
-        let told: &[u8] = if subcode == "11" { &[] } else { &attribute };
-        let wanted = notice(subcode, told);
-        assert_eq!(rt; check_section(&attribute, false), wanted, "at {text}");
-        assert_eq!(rt; check_update(&body).err(), wanted, "at {text}");
+        expect_attribute(&rt, row)?;
     }
+    Ok(())
+}
+
+fn expect_update(rt: &(impl AllocGlobal + Abort), row: &str) -> Result<(), Fail> {
+    let words: Vec<&str> = row.split(' ').collect(rt.alloc())?;
+    let [withdrawn, section, nlri, subcode, data] = words.as_slice() else {
+        return Err("no row".into());
+    };
+    let told = octets(rt.alloc(), data)?;
+    let body = body_of(rt.alloc(), withdrawn, section, nlri)?;
+    assert_eq!(rt;
+        check_update(&body).err(),
+        notice(subcode, &told),
+        "at {row}"
+    );
     Ok(())
 }
 
 #[test]
 fn the_first_fault_of_a_body_is_returned(rt: HostRuntime) -> Result<(), Fail> {
-    let alloc = rt.alloc();
     for row in UPDATES.lines() {
-        let mut words = row.split(' ');
-        let withdrawn = words.next().ok_or("no withdrawn prefixes")?;
-        let section = words.next().ok_or("no section")?;
-        let nlri = words.next().ok_or("no announced prefixes")?;
-        let subcode = words.next().ok_or("no subcode")?;
-        let told = octets(alloc, words.next().ok_or("no data")?)?;
-        let body = body_of(alloc, withdrawn, section, nlri)?;
-        assert_eq!(rt;
-            check_update(&body).err(),
-            notice(subcode, &told),
-            "at {row}"
-        );
+        expect_update(&rt, row)?;
     }
+    Ok(())
+}
+
+#[test]
+fn lengths_of_parts_fill_a_body(rt: HostRuntime) -> Result<(), Fail> {
     for row in LENGTHS.lines() {
         let (text, subcode) = row.split_once(' ').ok_or("no subcode")?;
-        let body = octets(alloc, text)?;
+        let body = octets(rt.alloc(), text)?;
         assert_eq!(rt; check_update(&body).err(), notice(subcode, &[]), "at {row}");
     }
-    // one optional attribute that fills a message of 4,096 octets
-    let mut body = octets(alloc, "00000fe9d0c80fe5")?;
+    Ok(())
+}
+
+// One optional attribute that fills a message of 4,096 octets.
+#[test]
+fn the_longest_body_is_accepted(rt: HostRuntime) -> Result<(), Fail> {
+    let mut body = octets(rt.alloc(), "00000fe9d0c80fe5")?;
     body.resize(4077, 0)?;
     let update = check_update(&body).ok().ok_or("a fault")?;
     assert_eq!(rt; update.section(), &body[4..]);

@@ -3,7 +3,7 @@ mod counts;
 mod helpers;
 mod texts;
 
-use std::alloc::Global;
+use std::alloc::{AllocError, Global};
 use std::process::Abort;
 use std::test::Fail;
 use xb_io::{MemShelf, MemSink};
@@ -14,19 +14,35 @@ type Case = (&'static str, &'static str);
 
 const CONFIG: &str = "[speaker]\nas = 65000\nid = '192.0.2.254'\naddress = '192.0.2.254'\n";
 
-// The number of the status of `check` with a manifest, and what is written.
-fn check(alloc: Global, manifest: &[u8]) -> Result<(u8, String), Fail> {
+// A shelf that holds a configuration and a manifest.
+fn shelf_of(alloc: Global, manifest: &[u8]) -> Result<MemShelf, AllocError> {
     let mut shelf = MemShelf::make(alloc)?;
     shelf.add("c", CONFIG.as_bytes())?;
     shelf.add("m", manifest)?;
-    let mut sink = MemSink::make(alloc, 1000)?;
+    Ok(shelf)
+}
+
+// The words of the command.
+fn command(alloc: Global) -> Result<Vec<String>, AllocError> {
     let mut words = Vec::new(alloc);
     for word in ["check", "c", "m"] {
         words.push(String::from_str(alloc, word)?)?;
     }
+    Ok(words)
+}
+
+fn written(alloc: Global, sink: &MemSink) -> Result<String, Fail> {
+    let text = str::from_utf8(sink.taken()).ok().ok_or("no text")?;
+    Ok(String::from_str(alloc, text)?)
+}
+
+// The number of the status of `check` with a manifest, and what is written.
+fn check(alloc: Global, manifest: &[u8]) -> Result<(u8, String), Fail> {
+    let words = command(alloc)?;
+    let mut shelf = shelf_of(alloc, manifest)?;
+    let mut sink = MemSink::make(alloc, 1000)?;
     let status = run(alloc, &words, &mut shelf, &mut sink);
-    let written = str::from_utf8(sink.taken()).ok().ok_or("no text")?;
-    Ok((status.code(), String::from_str(alloc, written)?))
+    Ok((status.code(), written(alloc, &sink)?))
 }
 
 // What is printed of a manifest, with its status.
@@ -44,13 +60,24 @@ fn expect(rt: &(impl AllocGlobal + Abort), manifest: &[u8], want: &str) -> Resul
     Ok(())
 }
 
+// Each text of a table, between a text before it and a text after it.
+fn expect_all(
+    rt: &(impl AllocGlobal + Abort),
+    before: &str,
+    cases: &[Case],
+    after: &str,
+) -> Result<(), Fail> {
+    for (text, want) in cases {
+        let manifest = format!(in rt.alloc(); "{before}{text}{after}")?;
+        expect(rt, manifest.as_bytes(), want)?;
+    }
+    Ok(())
+}
+
 #[test]
 fn texts_are_judged(rt: HostRuntime) -> Result<(), Fail> {
-    for (before, cases, after) in texts::TABLES {
-        for (text, want) in cases {
-            let manifest = format!(in rt.alloc(); "{before}{text}{after}")?;
-            expect(&rt, manifest.as_bytes(), want)?;
-        }
+    for (before, cases, after) in &texts::TABLES {
+        expect_all(&rt, before, cases, after)?;
     }
     expect(&rt, &[b'#', 0xff, b'\n'], "text top 0 0")
 }

@@ -4,7 +4,7 @@ mod refusals;
 mod streams;
 mod texts;
 
-use std::alloc::Global;
+use std::alloc::{AllocError, Global};
 use std::process::Abort;
 use std::test::Fail;
 use xb_io::{MemShelf, MemSink};
@@ -15,14 +15,12 @@ const ROUTE: [u8; 18] = [
     0x40, 1, 1, 0, 0x40, 2, 4, 2, 1, 0xfd, 0xe9, 0x40, 3, 4, 192, 0, 2, 1,
 ];
 
-const ROUTE_TEXT: &str = "400101004002040201fde9400304c0000201";
-
 // A message whose length field counts all of it.
 fn message(alloc: Global, kind: u8, body: &[u8]) -> Result<Vec<u8>, Fail> {
-    let mut octets = vec![in alloc; 255u8; 16]?;
     let len = u16::try_from(body.len() + 19).ok().ok_or("long")?;
-    octets.extend_from_slice(&len.to_be_bytes())?;
-    octets.push(kind)?;
+    let [high, low] = len.to_be_bytes();
+    let mut octets = Vec::from_slice(alloc, &[255; 16])?;
+    octets.extend_from_slice(&[high, low, kind])?;
     octets.extend_from_slice(body)?;
     Ok(octets)
 }
@@ -74,6 +72,20 @@ fn shelf_of(alloc: Global, x: &[u8], m: &[u8]) -> Result<MemShelf, Fail> {
     Ok(shelf)
 }
 
+fn words_of(alloc: Global, words: &[&str]) -> Result<Vec<String>, AllocError> {
+    let mut owned = Vec::new(alloc);
+    for word in words {
+        owned.push(String::from_str(alloc, word)?)?;
+    }
+    Ok(owned)
+}
+
+fn sink_of(alloc: Global, failing: u64) -> Result<MemSink, AllocError> {
+    let mut sink = MemSink::make(alloc, 1000)?;
+    sink.fail_at(failing)?;
+    Ok(sink)
+}
+
 // The status that words give over a shelf, and what a sink takes, which fails at that call, or never at 0.
 fn answer(
     alloc: Global,
@@ -81,13 +93,9 @@ fn answer(
     shelf: &mut MemShelf,
     failing: u64,
 ) -> Result<(Status, Vec<u8>), Fail> {
-    let mut sink = MemSink::make(alloc, 1000)?;
-    sink.fail_at(failing)?;
-    let mut owned = Vec::new(alloc);
-    for word in words {
-        owned.push(String::from_str(alloc, word)?)?;
-    }
-    let status = run(alloc, &owned, shelf, &mut sink);
+    let words = words_of(alloc, words)?;
+    let mut sink = sink_of(alloc, failing)?;
+    let status = run(alloc, &words, shelf, &mut sink);
     Ok((status, Vec::from_slice(alloc, sink.taken())?))
 }
 

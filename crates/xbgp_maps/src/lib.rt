@@ -26,6 +26,3 @@ mod tree;
 
 pub use maps::Maps;
 pub use shape::{MapShape, Put, Remove};
-
-#[cfg(test)]
-mod tests;

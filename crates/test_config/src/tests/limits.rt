@@ -4,83 +4,84 @@ use std::alloc::{AllocError, Global};
 use std::test::Fail;
 use xbgp_config::{MAX_COSTS, MAX_NETWORKS, MAX_PEERS};
 
-#[derive(Clone, Copy)]
-enum List {
-    Networks,
-    Peers,
-    Costs,
-}
+const NETWORKS: &str = "[speaker]
+as = 1
+id = '1.1.1.1'
+address = '1.1.1.1'
+networks = [";
 
-// A list, the number of its entries that differ, a last one after them, and what is read of the whole.
-type Case = (List, u32, &'static str, &'static str);
+// Entries; X.Y differs from one to the next.
+const NETWORK: &str = "'10.X.Y.0/24', ";
+
+const PEER: &str = "[[peer]]\nas = 65001\naddress = '10.0.X.Y'\n";
+
+const COST: &str = "[[cost]]\nnext_hop = '10.0.X.Y'\ncost = 7\n";
+
+// What is before the entries of a list, an entry, the number of them, what is after them, and what is read of the whole.
+type Case = (&'static str, &'static str, u32, &'static str, &'static str);
 
 const CASES: [Case; 9] = [
-    (List::Networks, MAX_NETWORKS, "", "good"),
-    (List::Networks, MAX_NETWORKS + 1, "", "Count in Speaker 0"),
-    (List::Networks, MAX_NETWORKS, "5", "Count in Speaker 0"),
-    (List::Peers, MAX_PEERS, "", "good"),
-    (List::Peers, MAX_PEERS + 1, "", "Count in Top 0"),
+    (NETWORKS, NETWORK, MAX_NETWORKS, "]\n", "good"),
     (
-        List::Peers,
+        NETWORKS,
+        NETWORK,
+        MAX_NETWORKS + 1,
+        "]\n",
+        "Count in Speaker 0",
+    ),
+    (
+        NETWORKS,
+        NETWORK,
+        MAX_NETWORKS,
+        "5]\n",
+        "Count in Speaker 0",
+    ),
+    (SPEAKER, PEER, MAX_PEERS, "", "good"),
+    (SPEAKER, PEER, MAX_PEERS + 1, "", "Count in Top 0"),
+    (
+        SPEAKER,
+        PEER,
         MAX_PEERS,
         "[[peer]]\nas = 0\n",
         "Count in Top 0",
     ),
-    (List::Costs, MAX_COSTS, "", "good"),
-    (List::Costs, MAX_COSTS + 1, "", "Count in Top 0"),
+    (SPEAKER, COST, MAX_COSTS, "", "good"),
+    (SPEAKER, COST, MAX_COSTS + 1, "", "Count in Top 0"),
     (
-        List::Costs,
+        SPEAKER,
+        COST,
         MAX_COSTS,
         "[[cost]]\ncost = 'x'\n",
         "Count in Top 0",
     ),
 ];
 
-// What is before the entries of a list.
-fn head(list: List) -> &'static str {
-    match list {
-        List::Networks => "[speaker]\nas = 1\nid = '1.1.1.1'\naddress = '1.1.1.1'\nnetworks = [",
-        List::Peers | List::Costs => SPEAKER,
-    }
+fn push_entry(text: &mut String, alloc: Global, entry: &str, i: u32) -> Result<(), AllocError> {
+    let numbers = format!(in alloc; "{}.{}", i / 256, i % 256)?;
+    text.push_str(&entry.replace(alloc, "X.Y", &numbers)?)
 }
 
-// What is after them.
-fn tail(list: List) -> &'static str {
-    match list {
-        List::Networks => "]\n",
-        List::Peers | List::Costs => "",
-    }
-}
-
-// The entry of a number.
-fn entry(alloc: Global, list: List, i: u32) -> Result<String, AllocError> {
-    let (high, low) = (i / 256, i % 256);
-    match list {
-        List::Networks => format!(in alloc; "'10.{high}.{low}.0/24', "),
-        List::Peers => format!(in alloc; "[[peer]]\nas = 65001\naddress = '10.0.{high}.{low}'\n"),
-        List::Costs => format!(in alloc; "[[cost]]\nnext_hop = '10.0.{high}.{low}'\ncost = {i}\n"),
-    }
-}
-
-fn listed(alloc: Global, list: List, count: u32, last: &str) -> Result<String, AllocError> {
-    let mut text = String::from_str(alloc, head(list))?;
+fn listed(
+    alloc: Global,
+    before: &str,
+    entry: &str,
+    count: u32,
+    after: &str,
+) -> Result<String, AllocError> {
+    let mut text = String::from_str(alloc, before)?;
     for i in 0..count {
-        text.push_str(&entry(alloc, list, i)?)?;
+        push_entry(&mut text, alloc, entry, i)?;
     }
-    text.push_str(last)?;
-    text.push_str(tail(list))?;
+    text.push_str(after)?;
     Ok(text)
 }
 
 #[test]
 fn entries_are_counted(rt: HostRuntime) -> Result<(), Fail> {
-    for (list, count, last, want) in CASES {
-        let text = listed(rt.alloc(), list, count, last)?;
-        assert_eq!(rt;
-            judged(rt.alloc(), text.as_bytes())?.as_str(),
-            want,
-            "{count}"
-        );
+    for (before, entry, count, after, want) in &CASES {
+        let text = listed(rt.alloc(), before, entry, *count, after)?;
+        let read = judged(rt.alloc(), text.as_bytes())?;
+        assert_eq!(rt; read.as_str(), *want, "{count}");
     }
     Ok(())
 }

@@ -1,6 +1,7 @@
 use crate::next_open;
 use bgp_frame::{Frames, HeaderFault, Next};
 use bgp_open::{OpenSeen4, OpenWant};
+use std::process::Abort;
 use std::test::Fail;
 
 // The header of an UPDATE whose length field is 4,097.
@@ -15,32 +16,43 @@ const GREETING: [u8; 48] = [
     255, 255, 255, 255, 255, 0, 19, 4,
 ];
 
+// All of a piece is taken, and then the next message is this one.
+fn expect(rt: &impl Abort, frames: &mut Frames, piece: &[u8], next: Next) {
+    assert_eq!(rt; (frames.feed(piece), frames.next()), (piece.len(), next));
+}
+
+fn expect_body(rt: &impl Abort, frames: &Frames, body: &[u8]) {
+    assert_eq!(rt; frames.body(), body);
+}
+
 #[test]
 fn messages_come_from_single_octets(rt: HostRuntime) -> Result<(), Fail> {
     let mut frames = Frames::make(rt.alloc())?;
     for octet in &GREETING[..28] {
-        assert_eq!(rt; frames.feed(&[*octet]), 1);
-        assert_eq!(rt; frames.next(), Next::More);
+        expect(&rt, &mut frames, &[*octet], Next::More);
     }
-    assert_eq!(rt; frames.feed(&GREETING[28..]), 20);
-    assert_eq!(rt; frames.next(), Next::Whole { kind: 1, len: 29 });
-    assert_eq!(rt; frames.body(), &GREETING[19..29]);
-    assert_eq!(rt; frames.next(), Next::Whole { kind: 4, len: 19 });
-    assert!(rt; frames.body().is_empty());
-    assert_eq!(rt; frames.next(), Next::More);
+    expect(
+        &rt,
+        &mut frames,
+        &GREETING[28..],
+        Next::Whole { kind: 1, len: 29 },
+    );
+    expect_body(&rt, &frames, &GREETING[19..29]);
+    expect(&rt, &mut frames, &[], Next::Whole { kind: 4, len: 19 });
+    expect_body(&rt, &frames, &[]);
+    expect(&rt, &mut frames, &[], Next::More);
     Ok(())
 }
 
 #[test]
 fn a_length_is_refused_once_the_header_is_there(rt: HostRuntime) -> Result<(), Fail> {
+    let fault = Next::Fault(HeaderFault::Length(4097));
     let mut frames = Frames::make(rt.alloc())?;
-    assert_eq!(rt; frames.feed(&LONG[..18]), 18);
-    assert_eq!(rt; frames.next(), Next::More);
-    assert_eq!(rt; frames.feed(&LONG[18..]), 1);
-    assert_eq!(rt; frames.next(), Next::Fault(HeaderFault::Length(4097)));
-    assert_eq!(rt; frames.next(), Next::Fault(HeaderFault::Length(4097)));
+    expect(&rt, &mut frames, &LONG[..18], Next::More);
+    expect(&rt, &mut frames, &LONG[18..], fault);
+    expect(&rt, &mut frames, &[], fault);
     frames.clear();
-    assert_eq!(rt; frames.next(), Next::More);
+    expect(&rt, &mut frames, &[], Next::More);
     Ok(())
 }
 
@@ -48,15 +60,18 @@ fn a_length_is_refused_once_the_header_is_there(rt: HostRuntime) -> Result<(), F
 fn an_open_is_accepted_once_it_is_whole(rt: HostRuntime) -> Result<(), Fail> {
     let mut frames = Frames::make(rt.alloc())?;
     let want = OpenWant { peer_as: 65001 };
-    assert_eq!(rt; frames.feed(&GREETING[..28]), 28);
-    assert_eq!(rt; next_open(&mut frames, &want), None);
-    assert_eq!(rt; frames.feed(&GREETING[28..]), 20);
     let seen = OpenSeen4 {
         hold: 90,
         id: 0xc000_0201,
         wide: false,
     };
-    assert_eq!(rt; next_open(&mut frames, &want), Some(seen));
-    assert_eq!(rt; next_open(&mut frames, &want), None);
+    for (piece, open) in [
+        (&GREETING[..28], None),
+        (&GREETING[28..], Some(seen)),
+        (&[], None),
+    ] {
+        assert_eq!(rt; frames.feed(piece), piece.len());
+        assert_eq!(rt; next_open(&mut frames, &want), open);
+    }
     Ok(())
 }

@@ -3,6 +3,7 @@ use bgp_frame::{Frames, Next};
 use bgp_open::{OpenSeen4, OpenWant, read_open4};
 use bgp_write::{Packer, write_keepalive, write_notice, write_open, write_open4};
 use std::alloc::Global;
+use std::process::Abort;
 use std::test::Fail;
 use xb_values::{Buf, Prefix};
 use xb_wire::numbers::MAX_MESSAGE;
@@ -28,75 +29,92 @@ fn read_back(alloc: Global, octets: &[u8], piece: usize) -> Result<(u8, Vec<u8>)
     Ok(seen.ok_or("no message")?)
 }
 
-#[test]
-fn an_open_is_read_again(rt: HostRuntime) -> Result<(), Fail> {
-    let alloc = rt.alloc();
-    let mut plain = Buf::make(alloc, MAX_MESSAGE)?;
-    write_open(&mut plain, 65001, 90, 0xc000_0201);
-    let mut wide = Buf::make(alloc, MAX_MESSAGE)?;
-    write_open4(&mut wide, 200_000, 90, 0xc000_0201);
+// A message comes back, in single octets and as a whole, with this type and body.
+fn expect(
+    rt: &(impl AllocGlobal + Abort),
+    message: &Buf,
+    kind: u8,
+    body: &[u8],
+) -> Result<(), Fail> {
     for piece in [1, MAX_MESSAGE] {
-        for (out, is_wide, peer_as) in [(&plain, false, 65001), (&wide, true, 200_000)] {
-            let (kind, body) = read_back(alloc, out.as_slice(), piece)?;
-            assert_eq!(rt; kind, 1);
-            assert!(rt; body.len() >= 10);
-            let seen = read_open4(&body, &OpenWant { peer_as });
-            assert_eq!(rt;
-                seen,
-                Ok(OpenSeen4 {
-                    hold: 90,
-                    id: 0xc000_0201,
-                    wide: is_wide,
-                })
-            );
-        }
+        let (seen, octets) = read_back(rt.alloc(), message.as_slice(), piece)?;
+        assert_eq!(rt; (seen, octets.as_slice()), (kind, body));
     }
     Ok(())
 }
 
 #[test]
 fn control_messages_are_read_again(rt: HostRuntime) -> Result<(), Fail> {
-    let alloc = rt.alloc();
-    let mut alive = Buf::make(alloc, MAX_MESSAGE)?;
-    write_keepalive(&mut alive);
-    let mut notice = Buf::make(alloc, MAX_MESSAGE)?;
-    write_notice(&mut notice, 3, 4, &[0x80, 1, 1, 0]);
+    let mut out = Buf::make(rt.alloc(), MAX_MESSAGE)?;
+    write_keepalive(&mut out);
+    expect(&rt, &out, 4, &[])?;
+    write_notice(&mut out, 3, 4, &[0x80, 1, 1, 0]);
+    expect(&rt, &out, 3, &[3, 4, 0x80, 1, 1, 0])
+}
+
+// What an OPEN says that comes in pieces of one size.
+fn open_of(alloc: Global, message: &Buf, peer_as: u32, piece: usize) -> Result<OpenSeen4, Fail> {
+    let (kind, body) = read_back(alloc, message.as_slice(), piece)?;
+    if kind != 1 || body.len() < 10 {
+        return Err("no OPEN".into());
+    }
+    let seen = read_open4(&body, &OpenWant { peer_as }).ok();
+    Ok(seen.ok_or("refused")?)
+}
+
+#[test]
+fn an_open_is_read_again(rt: HostRuntime) -> Result<(), Fail> {
+    let mut plain = Buf::make(rt.alloc(), MAX_MESSAGE)?;
+    write_open(&mut plain, 65001, 90, 0xc000_0201);
+    let mut wide = Buf::make(rt.alloc(), MAX_MESSAGE)?;
+    write_open4(&mut wide, 200_000, 90, 0xc000_0201);
+    for (message, peer_as, is_wide) in [(&plain, 65001, false), (&wide, 200_000, true)] {
+        let open = OpenSeen4 {
+            hold: 90,
+            id: 0xc000_0201,
+            wide: is_wide,
+        };
+        for piece in [1, MAX_MESSAGE] {
+            assert_eq!(rt; open_of(rt.alloc(), message, peer_as, piece)?, open);
+        }
+    }
+    Ok(())
+}
+
+// An UPDATE without a fault comes back with these withdrawn prefixes, section and announced prefixes.
+fn expect_update(
+    rt: &(impl AllocGlobal + Abort),
+    message: &Buf,
+    parts: (&[u8], &[u8], &[u8]),
+) -> Result<(), Fail> {
     for piece in [1, MAX_MESSAGE] {
-        let (kind, body) = read_back(alloc, alive.as_slice(), piece)?;
-        assert_eq!(rt; kind, 4);
-        assert!(rt; body.is_empty());
-        let (kind, body) = read_back(alloc, notice.as_slice(), piece)?;
-        assert_eq!(rt; kind, 3);
-        assert_eq!(rt; body.as_slice(), [3, 4, 0x80, 1, 1, 0].as_slice());
+        let (kind, body) = read_back(rt.alloc(), message.as_slice(), piece)?;
+        assert_eq!(rt; kind, 2);
+        let update = check_update(&body).ok().ok_or("a fault")?;
+        assert_eq!(rt;
+            (update.withdrawn(), update.section(), update.nlri()),
+            parts
+        );
     }
     Ok(())
 }
 
 #[test]
-fn updates_are_read_again(rt: HostRuntime) -> Result<(), Fail> {
-    let alloc = rt.alloc();
+fn an_announcement_is_read_again(rt: HostRuntime) -> Result<(), Fail> {
     let prefix = Prefix::new(0x0a00_0000, 8).ok_or("prefix")?;
-    let mut announced = Buf::make(alloc, MAX_MESSAGE)?;
-    let mut packer = Packer::announce(&mut announced, &ROUTE);
+    let mut out = Buf::make(rt.alloc(), MAX_MESSAGE)?;
+    let mut packer = Packer::announce(&mut out, &ROUTE);
     assert!(rt; packer.push(prefix));
     packer.finish();
-    let mut withdrawn = Buf::make(alloc, MAX_MESSAGE)?;
-    let mut packer = Packer::withdrawals(&mut withdrawn);
+    expect_update(&rt, &out, (&[], &ROUTE, &[8, 10]))
+}
+
+#[test]
+fn a_withdrawal_is_read_again(rt: HostRuntime) -> Result<(), Fail> {
+    let prefix = Prefix::new(0x0a00_0000, 8).ok_or("prefix")?;
+    let mut out = Buf::make(rt.alloc(), MAX_MESSAGE)?;
+    let mut packer = Packer::withdrawals(&mut out);
     assert!(rt; packer.push(prefix));
     packer.finish();
-    for piece in [1, MAX_MESSAGE] {
-        let (kind, body) = read_back(alloc, announced.as_slice(), piece)?;
-        assert_eq!(rt; kind, 2);
-        let update = check_update(&body).ok().ok_or("a fault")?;
-        assert!(rt; update.withdrawn().is_empty());
-        assert_eq!(rt; update.section(), ROUTE.as_slice());
-        assert_eq!(rt; update.nlri(), [8, 10].as_slice());
-        let (kind, body) = read_back(alloc, withdrawn.as_slice(), piece)?;
-        assert_eq!(rt; kind, 2);
-        let update = check_update(&body).ok().ok_or("a fault")?;
-        assert_eq!(rt; update.withdrawn(), [8, 10].as_slice());
-        assert!(rt; update.section().is_empty());
-        assert!(rt; update.nlri().is_empty());
-    }
-    Ok(())
+    expect_update(&rt, &out, (&[8, 10], &[], &[]))
 }

@@ -1,4 +1,5 @@
 use bgp_write::{Packer, write_keepalive, write_notice, write_open, write_open4};
+use std::process::Abort;
 use std::test::Fail;
 use xb_values::{Buf, Prefix};
 use xb_wire::numbers::MAX_MESSAGE;
@@ -40,27 +41,36 @@ const WITHDRAWAL: [u8; 25] = [
     2, 8, 0x0a, 0, 0,
 ];
 
+fn expect(rt: &impl Abort, out: &Buf, message: &[u8]) {
+    assert_eq!(rt; out.as_slice(), message);
+}
+
 #[test]
-fn each_kind_of_message_is_written(rt: HostRuntime) -> Result<(), Fail> {
+fn control_messages_are_written(rt: HostRuntime) -> Result<(), Fail> {
     let mut out = Buf::make(rt.alloc(), MAX_MESSAGE)?;
     write_open(&mut out, 65000, 90, 0xc000_02fe);
-    assert_eq!(rt; out.as_slice(), OPEN.as_slice());
+    expect(&rt, &out, &OPEN);
     write_open4(&mut out, 200_000, 90, 0xc000_02fe);
-    assert_eq!(rt; out.as_slice(), WIDE_OPEN.as_slice());
+    expect(&rt, &out, &WIDE_OPEN);
     write_notice(&mut out, 1, 2, &[0x10, 1]);
-    assert_eq!(rt; out.as_slice(), NOTIFICATION.as_slice());
+    expect(&rt, &out, &NOTIFICATION);
     write_keepalive(&mut out);
-    assert_eq!(rt; out.as_slice(), KEEPALIVE.as_slice());
+    expect(&rt, &out, &KEEPALIVE);
+    Ok(())
+}
+
+#[test]
+fn updates_are_written(rt: HostRuntime) -> Result<(), Fail> {
+    let mut out = Buf::make(rt.alloc(), MAX_MESSAGE)?;
     let prefix = Prefix::new(0x0a00_0000, 8).ok_or("prefix")?;
     let mut announcement = Packer::announce(&mut out, &SECTION);
-    let pushed = announcement.push(prefix);
+    let announced = announcement.push(prefix);
     announcement.finish();
-    assert!(rt; pushed);
-    assert_eq!(rt; out.as_slice(), ANNOUNCEMENT.as_slice());
+    expect(&rt, &out, &ANNOUNCEMENT);
     let mut withdrawal = Packer::withdrawals(&mut out);
-    let pushed = withdrawal.push(prefix);
+    let withdrawn = withdrawal.push(prefix);
     withdrawal.finish();
-    assert!(rt; pushed);
-    assert_eq!(rt; out.as_slice(), WITHDRAWAL.as_slice());
+    expect(&rt, &out, &WITHDRAWAL);
+    assert!(rt; announced && withdrawn);
     Ok(())
 }

@@ -1,0 +1,6 @@
+//! Tests of what programs are made of, by the public calls of its crates: memory (`bpf_mem`), code (`bpf_insn`), runs in
+//! a world with helpers (`bpf_machine`), and maps (`xbgp_maps`). There is nothing here but these tests.
+#![tactic(auto)]
+
+#[cfg(test)]
+mod tests;

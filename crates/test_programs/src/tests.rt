@@ -1,0 +1,4 @@
+mod code;
+mod maps;
+mod memory;
+mod runs;
