@@ -1,4 +1,4 @@
-use Rattle.std.proofs.Common.{rules, ◌≡◌, ◌∷◌, ◌++◌, List, ℕ, Ok, refl, sym, ◌∙◌, ap, subst}
+use Rattle.std.proofs.Common.{rules, ◌≡◌, ◌∷◌, ◌++◌, List, ℕ, Ok, sym, ◌∙◌, ap, subst}
 use Rattle.xb_io.specs.Pages.{Gathered}
 use Rattle.xb_io.specs.declared.page.Halt.TheVariants.{OutOfMemory}
 use Rattle.xb_io.proofs.PageLemmas.{gathered_begin, gathers_stopped}

@@ -1,4 +1,4 @@
-use Rattle.std.proofs.Common.{◌≡◌, ◌++◌, length}
+use Rattle.std.proofs.Common.{◌++◌, length}
 use Rattle.xb_io.specs.Pages.{Gathered}
 use Rattle.bgp_attr.specs.Paths.{width_of}
 use Rattle.xbgp_top.specs.Answers.{judge_lines}
