@@ -36,7 +36,7 @@ fn expect(rt: &(impl AllocGlobal + Abort), before: &str, cases: &[Case]) -> Resu
 
 #[test]
 fn texts_are_judged(rt: HostRuntime) -> Result<(), Fail> {
-    for (before, cases) in &texts::TABLES {
+    for (before, cases) in texts::TABLES {
         expect(&rt, before, cases)?;
     }
     let no_text = judged(rt.alloc(), &[b'#', 0xff, b'\n'])?;

@@ -1,8 +1,10 @@
+ghost use Rattle.replay_log.specs.Readings.{IsReadAhead};
+
 use replay_log::{Got, LINE_LIMIT, LogReader, OCTETS_LIMIT, parse_line};
 use std::fs;
 use std::process::Abort;
 use std::test::Fail;
-use xb_io::{FileShelf, MemShelf};
+use xb_io::{FileShelf, MemShelf, Shelf};
 use xb_values::Buf;
 
 // What a line says for 3 peers and from clock 5 on.
@@ -57,10 +59,40 @@ const LINES: [(&str, &str); 38] = [
 
 #[test]
 fn lines_are_parsed(rt: HostRuntime) -> Result<(), Fail> {
-    for (line, want) in LINES {
-        assert_eq!(rt; said(&rt, line.as_bytes())?.as_str(), want, "{line}");
+    for (line, want) in &LINES {
+        assert_eq!(rt; said(&rt, line.as_bytes())?.as_str(), *want, "{line}");
     }
     Ok(())
+}
+
+// What `next_line` is to return, and the line if there is one.
+type Row = (Got, &'static [u8]);
+
+const END: Row = (Got::End, b"");
+
+const FAILED: Row = (Got::Failed, b"");
+
+fn expect_line(rt: &impl Abort, reader: &LogReader, line: &[u8]) {
+    assert_eq!(rt; reader.line(), line);
+}
+
+// Each call for the next line returns what its row says.
+fn expect<S: Shelf>(
+    rt: &impl Abort,
+    reader: &mut LogReader,
+    shelf: &mut S,
+    name: &str,
+    rows: &[Row],
+)
+    requires ahead { IsReadAhead (S.held shelf.old) name.now reader.old }
+    ensures ahead { IsReadAhead (S.held shelf.new) name.now reader.new }
+{
+    'rows: for (got, line) in rows {
+        assert_eq!(rt; reader.next_line(shelf, name), *got);
+        if *got == Got::Line {
+            expect_line(rt, reader, line);
+        }
+    }
 }
 
 #[test]
@@ -68,29 +100,13 @@ fn a_log_is_read_line_by_line(rt: HostRuntime) -> Result<(), Fail> {
     let mut shelf = MemShelf::make(rt.alloc())?;
     shelf.add("log", b"start 1\n\nup 1")?;
     let mut reader = LogReader::make(rt.alloc())?;
-    assert_eq!(rt; reader.next_line(&mut shelf, "log"), Got::Line);
-    assert_eq!(rt; reader.line(), b"start 1".as_slice());
-    assert_eq!(rt; reader.next_line(&mut shelf, "log"), Got::Line);
-    assert_eq!(rt; reader.line(), b"".as_slice());
-    assert_eq!(rt; reader.next_line(&mut shelf, "log"), Got::Line);
-    assert_eq!(rt; reader.line(), b"up 1".as_slice());
-    assert_eq!(rt; reader.next_line(&mut shelf, "log"), Got::End);
-    Ok(())
-}
-
-// The name is removed after the first line; the file that is open is read on.
-#[test]
-fn a_file_stays_open_between_lines(rt: HostRuntime) -> Result<(), Fail> {
-    fs::write(&rt, "log", "start 1\nup 1\n")?;
-    let mut shelf = FileShelf::new(&rt);
-    let mut reader = LogReader::make(rt.alloc())?;
-    assert_eq!(rt; reader.next_line(&mut shelf, "log"), Got::Line);
-    fs::remove_file(&rt, "log")?;
-    assert_eq!(rt; reader.next_line(&mut shelf, "log"), Got::Line);
-    assert_eq!(rt; reader.line(), b"up 1".as_slice());
-    assert_eq!(rt; reader.next_line(&mut shelf, "log"), Got::End);
-    let mut other = LogReader::make(rt.alloc())?;
-    assert_eq!(rt; other.next_line(&mut shelf, "other"), Got::Failed);
+    let rows: [Row; 4] = [
+        (Got::Line, b"start 1"),
+        (Got::Line, b""),
+        (Got::Line, b"up 1"),
+        END,
+    ];
+    expect(&rt, &mut reader, &mut shelf, "log", &rows);
     Ok(())
 }
 
@@ -99,7 +115,7 @@ fn an_empty_log_has_no_line(rt: HostRuntime) -> Result<(), Fail> {
     let mut shelf = MemShelf::make(rt.alloc())?;
     shelf.add("log", b"")?;
     let mut reader = LogReader::make(rt.alloc())?;
-    assert_eq!(rt; reader.next_line(&mut shelf, "log"), Got::End);
+    expect(&rt, &mut reader, &mut shelf, "log", &[END]);
     Ok(())
 }
 
@@ -109,9 +125,8 @@ fn a_failed_read_is_no_end(rt: HostRuntime) -> Result<(), Fail> {
     shelf.add("log", b"up 1")?;
     shelf.fail_at(5)?;
     let mut reader = LogReader::make(rt.alloc())?;
-    assert_eq!(rt; reader.next_line(&mut shelf, "log"), Got::Failed);
-    assert_eq!(rt; reader.next_line(&mut shelf, "log"), Got::Line);
-    assert_eq!(rt; reader.line(), b"up 1".as_slice());
+    let rows: [Row; 2] = [FAILED, (Got::Line, b"up 1")];
+    expect(&rt, &mut reader, &mut shelf, "log", &rows);
     Ok(())
 }
 
@@ -119,19 +134,48 @@ fn a_failed_read_is_no_end(rt: HostRuntime) -> Result<(), Fail> {
 fn a_log_that_is_not_held_fails(rt: HostRuntime) -> Result<(), Fail> {
     let mut shelf = MemShelf::make(rt.alloc())?;
     let mut reader = LogReader::make(rt.alloc())?;
-    assert_eq!(rt; reader.next_line(&mut shelf, "log"), Got::Failed);
+    expect(&rt, &mut reader, &mut shelf, "log", &[FAILED]);
+    Ok(())
+}
+
+// The name is removed after the first line; the file that is open is read on.
+#[test]
+fn a_file_stays_open_between_lines(rt: HostRuntime) -> Result<(), Fail> {
+    fs::write(&rt, "log", "start 1\nup 1\n")?;
+    let mut reader = LogReader::make(rt.alloc())?;
+    let mut other = LogReader::make(rt.alloc())?;
+    let mut shelf = FileShelf::new(&rt);
+    expect(
+        &rt,
+        &mut reader,
+        &mut shelf,
+        "log",
+        &[(Got::Line, b"start 1")],
+    );
+    fs::remove_file(&rt, "log")?;
+    expect(
+        &rt,
+        &mut reader,
+        &mut shelf,
+        "log",
+        &[(Got::Line, b"up 1"), END],
+    );
+    expect(&rt, &mut other, &mut shelf, "other", &[FAILED]);
     Ok(())
 }
 
 #[test]
 fn a_line_has_a_limit(rt: HostRuntime) -> Result<(), Fail> {
-    let mut shelf = MemShelf::make(rt.alloc())?;
     let line = vec![in rt.alloc(); b'x'; LINE_LIMIT + 1]?;
+    let mut shelf = MemShelf::make(rt.alloc())?;
     shelf.add("short", &line[..LINE_LIMIT])?;
     shelf.add("long", &line)?;
     let mut reader = LogReader::make(rt.alloc())?;
-    assert_eq!(rt; reader.next_line(&mut shelf, "short"), Got::Line);
     let mut other = LogReader::make(rt.alloc())?;
-    assert_eq!(rt; other.next_line(&mut shelf, "long"), Got::LineTooLong);
+    let got = (
+        reader.next_line(&mut shelf, "short"),
+        other.next_line(&mut shelf, "long"),
+    );
+    assert_eq!(rt; got, (Got::Line, Got::LineTooLong));
     Ok(())
 }

@@ -121,33 +121,65 @@ fn wanted(text: &str) -> Option<End> {
     }
 }
 
+fn row_of(words: &[&str]) -> Option<(u64, u64, End)> {
+    match words {
+        [x, y, want] => Some((number(x)?, number(y)?, wanted(want)?)),
+        _ => None,
+    }
+}
+
+// Whether a row ends as it says; if not, it is printed.
+fn is_right(
+    rt: &(impl Print + AllocGlobal),
+    room: &mut Room,
+    slots: &[u8],
+    row: (u64, u64, End),
+) -> Result<bool> {
+    let (x, y, want) = row;
+    let end = ran(rt.alloc(), room, slots, x, y)?;
+    if end != want {
+        println!(rt; "{slots:?} at {x:x} {y:x}: {end:?}, not {want:?}")?;
+    }
+    Ok(end == want)
+}
+
+// Rows that were tried, those that were wrong, and the slots that the next row is about.
+#[derive(Drop)]
+struct Tried {
+    rows: u32,
+    wrong: u32,
+    slots: Vec<u8>,
+}
+
+fn try_line(
+    rt: &(impl Print + AllocGlobal),
+    room: &mut Room,
+    tried: &mut Tried,
+    line: &str,
+) -> Result<()> {
+    let words: Vec<&str> = line.split(' ').collect(rt.alloc())?;
+    if let ["code", octets, _name] = words.as_slice() {
+        tried.slots.clear();
+        return push_octets(&mut tried.slots, octets);
+    }
+    let row = row_of(&words).context("no row")?;
+    tried.rows = tried.rows.saturating_add(1);
+    if !is_right(rt, room, &tried.slots, row)? {
+        tried.wrong = tried.wrong.saturating_add(1);
+    }
+    Ok(())
+}
+
 fn try_rows(rt: &(impl Files + Print + AllocGlobal), name: &str) -> Result<()> {
     let text = fs::read_to_string(rt, name)?;
     let mut room = Room::make(rt.alloc())?;
-    let (mut rows, mut wrong) = (0_u32, 0_u32);
-    let mut slots = Vec::new(rt.alloc());
+    let slots = Vec::new(rt.alloc());
+    let (rows, wrong) = (0, 0);
+    let mut tried = Tried { rows, wrong, slots };
     for line in text.lines() {
-        let words: Vec<&str> = line.split(' ').collect(rt.alloc())?;
-        match words.as_slice() {
-            ["code", octets, _name] => {
-                slots.clear();
-                push_octets(&mut slots, octets)?;
-            }
-            [x, y, want] => {
-                let x = number(x).context("no number")?;
-                let y = number(y).context("no number")?;
-                let want = wanted(want).context("no end")?;
-                let end = ran(rt.alloc(), &mut room, &slots, x, y)?;
-                rows = rows.saturating_add(1);
-                if end != want {
-                    wrong = wrong.saturating_add(1);
-                    println!(rt; "{slots:?} at {line}: {end:?}")?;
-                }
-            }
-            _ => anyhow::bail!("no row: {line}"),
-        }
+        try_line(rt, &mut room, &mut tried, line)?;
     }
-    println!(rt; "{rows} rows, {wrong} wrong")?;
+    println!(rt; "{} rows, {} wrong", tried.rows, tried.wrong)?;
     Ok(())
 }
 
