@@ -42,15 +42,15 @@ pub first_units-zero : (segments : List Segment) → first_units 0 segments ≡ 
 first_units-zero [] = refl
 first_units-zero (s ∷ segments) = refl
 
--- one unit or more
-first_units-cons : (n : ℕ) (s : Segment) (segments : List Segment) → 0 < n
-    → first_units n (s ∷ segments)
-    ≡ (if s.is_set then s ∷ first_units (n - 1) segments
-    else record { is_set = false; numbers = take n s.numbers } ∷ first_units (n - length s.numbers) segments)
+-- one unit or more, by whether the first segment is a set
+abbrev some_units : Bool → ℕ → Segment → List Segment → List Segment
+some_units set n s segments =
+    if set then s ∷ first_units (n - 1) segments
+    else record { is_set = false; numbers = take n s.numbers } ∷ first_units (n - length s.numbers) segments
+
+first_units-cons : (n : ℕ) (s : Segment) (segments : List Segment) → 0 < n → first_units n (s ∷ segments) ≡ some_units s.is_set n s segments
 first_units-cons zero s segments h = absurd (omega (arith, h))
-first_units-cons (suc n) s segments h =
-    ap (λ b. if b then [] else if s.is_set then s ∷ first_units (suc n - 1) segments
-    else record { is_set = false; numbers = take (suc n) s.numbers } ∷ first_units (suc n - length s.numbers) segments) (eqb-suc-zero n)
+first_units-cons (suc n) s segments h = ap (λ b. if b then [] else some_units s.is_set (suc n) s segments) (eqb-suc-zero n)
 
 -- the AS numbers of a segment that is cut
 numbers-cut : (wide : Bool) (n : ℕ) (p first : Part) → IsCutTo (width_of wide) n p first → first.count ≤ p.count
@@ -59,45 +59,39 @@ numbers-cut wide n p first cut le =
     ap (numbers_of (width_of wide) first.count) cut.octets ∙ numbers_of-take wide first.count p.count p.octets le
 
 units-cut : (wide : Bool) (n : ℕ) (p first : Part) (segments : List Segment) (set : Bool) → 0 < n → p.set ≡ set → IsCutTo (width_of wide) n p first
-    → first_units n (part_segment (width_of wide) p ∷ segments) ≡ part_segment (width_of wide) first ∷ first_units (n - (if first.set then 1 else first.count)) segments
+    → some_units set n (part_segment (width_of wide) p) segments ≡ part_segment (width_of wide) first ∷ first_units (n - (if first.set then 1 else first.count)) segments
 units-cut wide n p first segments true some e cut =
     let w = width_of wide in
     let ns = numbers_of w p.count p.octets in
     let same : first.count ≡ p.count = cut.count ∙ ap (λ b. if b then p.count else min n p.count) e in
-    let kept : numbers_of w first.count first.octets ≡ ns =
-    numbers-cut wide n p first cut (omega (arith, same)) ∙ take_all first.count ns (omega (arith, same, length-numbers_of w p.count p.octets)) in
-    first_units-cons n (part_segment w p) segments some
-    ∙ ap (λ b. if b then part_segment w p ∷ first_units (n - 1) segments
-    else record { is_set = false; numbers = take n ns } ∷ first_units (n - length ns) segments) e
-    ∙ ap (λ (s : Segment). s ∷ first_units (n - 1) segments) (ap (λ b. record { is_set = b; numbers = ns }) (sym cut.set) ∙ ap (λ l. record { is_set = first.set; numbers = l }) (sym kept))
-    ∙ ap (λ b. part_segment w first ∷ first_units (n - (if b then 1 else first.count)) segments) (sym (cut.set ∙ e))
+    let kept : ns ≡ numbers_of w first.count first.octets =
+    sym (numbers-cut wide n p first cut (omega (arith, same)) ∙ take_all first.count ns (omega (arith, same, length-numbers_of w p.count p.octets))) in
+    let one : 1 ≡ (if first.set then 1 else first.count) = ap (λ b. if b then 1 else first.count) (sym (cut.set ∙ e)) in
+    ap (λ b. record { is_set = b; numbers = ns } ∷ first_units (n - 1) segments) (sym cut.set)
+    ∙ ap (λ l. record { is_set = first.set; numbers = l } ∷ first_units (n - 1) segments) kept
+    ∙ ap (λ k. part_segment w first ∷ first_units (n - k) segments) one
 units-cut wide n p first segments false some e cut =
     let w = width_of wide in
     let ns = numbers_of w p.count p.octets in
     let len = length-numbers_of w p.count p.octets in
     let same : first.count ≡ min n p.count = cut.count ∙ ap (λ b. if b then p.count else min n p.count) e in
-    let kept : numbers_of w first.count first.octets ≡ take n ns =
-    numbers-cut wide n p first cut (omega (arith, same)) ∙ ap (λ m. take m ns) (same ∙ ap (min n) (sym len)) ∙ take_min n ns in
-    let left : n - length ns ≡ n - first.count = omega (arith, same, len) in
-    first_units-cons n (part_segment w p) segments some
-    ∙ ap (λ b. if b then part_segment w p ∷ first_units (n - 1) segments
-    else record { is_set = false; numbers = take n ns } ∷ first_units (n - length ns) segments) e
-    ∙ ap (λ m. record { is_set = false; numbers = take n ns } ∷ first_units m segments) left
-    ∙ ap (λ (s : Segment). s ∷ first_units (n - first.count) segments)
-    (ap (λ b. record { is_set = b; numbers = take n ns }) (sym (cut.set ∙ e)) ∙ ap (λ l. record { is_set = first.set; numbers = l }) (sym kept))
-    ∙ ap (λ b. part_segment w first ∷ first_units (n - (if b then 1 else first.count)) segments) (sym (cut.set ∙ e))
-
--- the units of a segment that is cut are not more than were asked for
-pub hops-cut_le : (set kept : Bool) (n count left : ℕ) → 0 < n → kept ≡ set → left ≡ (if set then count else min n count) → (if kept then 1 else left) ≤ n
-hops-cut_le true kept n count left some same e = let one : (if kept then 1 else left) ≡ 1 = ap (λ b. if b then 1 else left) same in omega (arith, one, some)
-hops-cut_le false kept n count left some same e = let all : (if kept then 1 else left) ≡ left = ap (λ b. if b then 1 else left) same in omega (arith, all, e)
+    let kept : take n ns ≡ numbers_of w first.count first.octets =
+    sym (numbers-cut wide n p first cut (omega (arith, same)) ∙ ap (λ m. take m ns) (same ∙ ap (min n) (sym len)) ∙ take_min n ns) in
+    let own : first.count ≡ (if first.set then 1 else first.count) = ap (λ b. if b then 1 else first.count) (sym (cut.set ∙ e)) in
+    let left : n - length ns ≡ n - (if first.set then 1 else first.count) = omega (arith, same, len, own) in
+    ap (λ b. record { is_set = b; numbers = take n ns } ∷ first_units (n - length ns) segments) (sym (cut.set ∙ e))
+    ∙ ap (λ l. record { is_set = first.set; numbers = l } ∷ first_units (n - length ns) segments) kept
+    ∙ ap (λ m. part_segment w first ∷ first_units m segments) left
 
 -- the first units of a path, by its first segment and the path after it
 pub first_units-split : (wide : Bool) (n : ℕ) (s : List ℕ) (p first : Part) (rest : List ℕ) → 0 < n → BeginsWith (width_of wide) s p rest → IsCutTo (width_of wide) n p first
     → first_units n (path (width_of wide) s)
     ≡ part_segment (width_of wide) first ∷ first_units (n - (if first.set then 1 else first.count)) (path (width_of wide) rest)
 first_units-split wide n s p first rest some split cut =
-    ap (first_units n) split.segments ∙ units-cut wide n p first (path (width_of wide) rest) p.set some refl cut
+    let w = width_of wide in
+    ap (first_units n) split.segments
+    ∙ first_units-cons n (part_segment w p) (path w rest) some
+    ∙ units-cut wide n p first (path w rest) p.set some refl cut
 
 -- AS numbers are not more than their octets
 count_le : (wide : Bool) (n : ℕ) → n ≤ width_of wide * n

@@ -57,7 +57,3 @@ IsWriting-more start text old now after at next coming part more w e written end
   written = written ∙ ap (over at part) w.written ∙ over-over start at w.done part old w.here (IsWriting-fits start text old now at coming part more w e);
   room = w.room;
 }
-
--- all is written
-pub IsWriting-end : (start : ℕ) (text old now : List ℕ) (at : ℕ) → IsWriting start text old now at [] → now ≡ over start text old
-IsWriting-end start text old now at w = w.written ∙ ap (λ t. over start t old) (sym (append-nil w.done) ∙ w.joined)

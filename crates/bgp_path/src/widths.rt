@@ -145,7 +145,8 @@ fn write_units(out: &mut [u8], path: &[u8], units: usize, wide: bool)
     }
 }
 
-// Writes the first units of a path in the other width, and then `after`, to the front of `out`.
+// Writes the first units of a path in the other width, and then `after`, to the front of `out`. All units are written if
+// `units` is the path's length, since each has an octet at least.
 fn units_into(path: &[u8], units: usize, wide: bool, after: &[u8], out: &mut [u8]) -> Option<usize>
     requires { is_path (width_of wide) path.now ≡ true }
     ensures { WritesFront result out.old out.new (units_octets wide units path.now ++ after.now) }

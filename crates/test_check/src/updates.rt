@@ -1,4 +1,5 @@
-use bgp_check::{check_section, check_update};
+use crate::hex::octets;
+use bgp_check::{check_section, check_section4, check_update, check_update4};
 use std::alloc::{AllocError, Global};
 use std::process::Abort;
 use std::test::Fail;
@@ -70,6 +71,16 @@ d0c8000101 0
 00ff00 2
 60c8020102 2";
 
+// In each row an attribute in hexadecimal, and the subcodes of its fault with AS numbers of two octets and of four, or
+// 0.
+const WIDTHS: &str = "40010100 0 0
+40010103 6 6
+400200 0 0
+4002040201fde9 0 11
+40020602010000fde9 11 0
+c00706fde9c0000201 0 5
+c0070800030d40c0000201 5 0";
+
 // In each row withdrawn prefixes, section and announced prefixes in hexadecimal, then the subcode of the first
 // fault, or 0, and its data; `-` is no octets.
 const UPDATES: &str = "- - - 0 -
@@ -113,24 +124,6 @@ const LENGTHS: &str = "- 1
 0001000000 0
 0001000001 1
 ffffffffff 1";
-
-fn digit(text: u8) -> u8 {
-    match text {
-        b'0'..=b'9' => text - b'0',
-        b'a'..=b'f' => text - b'a' + 10,
-        _ => 0,
-    }
-}
-
-fn octets(alloc: Global, text: &str) -> Result<Vec<u8>, AllocError> {
-    let mut octets = Vec::new(alloc);
-    for pair in text.as_bytes().chunks_exact(2) {
-        if let [high, low] = pair {
-            octets.push(digit(*high) << 4 | digit(*low))?;
-        }
-    }
-    Ok(octets)
-}
 
 fn push_part(body: &mut Vec<u8>, part: &[u8]) -> Result<(), AllocError> {
     let len = u16::try_from(part.len()).unwrap_or(0);
@@ -194,6 +187,29 @@ fn expect_update(rt: &(impl AllocGlobal + Abort), row: &str) -> Result<(), Fail>
         notice(subcode, &told),
         "at {row}"
     );
+    Ok(())
+}
+
+#[test]
+fn a_path_and_an_aggregator_are_judged_in_either_width(rt: HostRuntime) -> Result<(), Fail> {
+    let alloc = rt.alloc();
+    for row in WIDTHS.lines() {
+        let mut words = row.split(' ');
+        let text = words.next().ok_or("no attribute")?;
+        let attribute = octets(alloc, text)?;
+        let body = body_of(alloc, "-", text, "-")?;
+        let told: &[u8] = if text.starts_with("4002") {
+            &[]
+        } else {
+            &attribute
+        };
+        let two = notice(words.next().ok_or("no subcode")?, told);
+        assert_eq!(rt; check_section(&attribute, false), two, "at {row}");
+        assert_eq!(rt; check_update(&body).err(), two, "at {row}");
+        let four = notice(words.next().ok_or("no subcode")?, told);
+        assert_eq!(rt; check_section4(&attribute, false), four, "at {row}");
+        assert_eq!(rt; check_update4(&body).err(), four, "at {row}");
+    }
     Ok(())
 }
 

@@ -1,5 +1,4 @@
 use Rattle.std.proofs.Common.{ap, ◌+◌, ◌*◌, ◌≤◌, length, arith, rules}
-use Rattle.std.proofs.lemmas.Grind.{common_steps}
 use Rattle.std.proofs.lemmas.List.{length-append}
 use Rattle.bgp_attr.specs.Paths.{width_of}
 use Rattle.bgp_path.specs.Parts.{part_segment}
@@ -17,4 +16,4 @@ overflow_add-len c =
     let parts = length-append (other_segment wide (part_segment (width_of wide) segment)) (other_path wide more) in
     let bound = length-units_octets wide c.args.units c.args.path.now c.requires in
     let within : c.segments.len + c.other_len-len.result ≤ 2 * length c.args.path.now = omega (arith, split, parts, bound, c.segments.invariant.sum, c.other_len-len.ensures) in
-    first_of (omega (arith, within), search (rules, within), grind (arith, within), grind (arith, common_steps, within))
+    search (rules, within)
