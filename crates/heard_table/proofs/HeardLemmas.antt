@@ -11,7 +11,6 @@ use Rattle.xb_wire.specs.Messages.{Update, update_parts, lengths_fit, message_ki
 use Rattle.xb_wire.specs.declared.numbers.TheConstants.{UPDATE}
 use Rattle.bgp_update.specs.Heard.{heard, after_message, after_update, withdrawn_from, announced_in, is_readable, is_refused}
 use Rattle.bgp_update.specs.Walks.{found_message, messages_from, prefixes_from}
-use Rattle.bgp_update.proofs.WalkLemmas.{prefixes_nil}
 use Rattle.heard_table.specs.Steps.{withdraw, announce, parts_step, update_step, message_step, after_messages, or_refused}
 
 -- the table after octets that are whole
@@ -113,8 +112,3 @@ heard_by_steps s =
     by_refusal (Some m) b table end = refl
     by_refusal None true table end = refl
     by_refusal None false table end = let e : 0 + end ≡ end = omega arith in ap Err e
-
--- no octets announce nothing
-pub announce_nothing : (octets section : List ℕ) (table : Sections) → (length octets == 0) ≡ true → announce (prefixes_from octets) section table ≡ Some table
-announce_nothing [] section table none = ap (λ ps. announce ps section table) (prefixes_nil [] refl)
-announce_nothing (b ∷ octets) section table none = absurd (cc (none, some_left b octets))

@@ -1,45 +1,32 @@
-// The octets of a section, owned by all prefixes that share it.
-ghost use Rattle.std.specs.Prelude.{◌≡◌, IfOk};
+// The octets of a section, as part of the stream.
+ghost use Rattle.std.specs.Prelude.{◌≡◌};
 
-use std::alloc::{AllocError, Global};
 use std::marker::Model;
-use std::rc::Rc;
 
-/// The octets of a section of path attributes. The prefixes of one UPDATE share them.
+/// The octets of a section of path attributes, in the stream, which is not copied. Contracts see the octets.
 #[derive(Drop)]
-pub struct Section {
-    octets: Rc<Vec<u8>>,
+pub struct Section<'a> {
+    octets: &'a [u8],
 }
 
-impl Model for Section {
+impl<'a> Model for Section<'a> {
     ghost use Rattle.std.specs.Prelude.{ℕ, List};
 
     ghost Value = { List ℕ };
 
-    ghost view = { λ s. s.octets.value.items };
+    ghost view = { λ s. s.octets.now };
 }
 
-impl Section {
-    /// A copy of the octets. It fails only if there is no memory.
-    pub fn copy_of(alloc: Global, octets: &[u8]) -> Result<Section, AllocError>
-        ensures { IfOk result (λ s. s ≡ octets.now) }
+impl<'a> Section<'a> {
+    pub fn new(octets: &'a [u8]) -> Section<'a>
+        ensures { result ≡ octets.now }
     {
-        let octets = Rc::new(alloc, Vec::from_slice(alloc, octets)?)?;
-        Ok(Section { octets })
+        Section { octets }
     }
 
-    /// The same octets, not copied. It fails only if there is no memory.
-    pub fn share(&self) -> Result<Section, AllocError>
-        ensures { IfOk result (λ s. s ≡ self.now) }
-    {
-        Ok(Section {
-            octets: self.octets.clone()?,
-        })
-    }
-
-    pub fn as_slice(&self) -> &[u8]
+    pub fn as_slice(&self) -> &'a [u8]
         ensures { result.now ≡ self.now }
     {
-        self.octets.as_ref().as_slice()
+        self.octets
     }
 }

@@ -1,7 +1,6 @@
 // The table, and how it is made from a stream.
-ghost use Rattle.std.specs.Prelude.{◌≡◌, IfOk, Some, None, if◌then◌else◌};
-ghost use Rattle.std.specs.Option.{option_map};
-ghost use Rattle.xb_words.specs.Table.{entry_after, IsRising};
+ghost use Rattle.std.specs.Prelude.{◌≡◌, [], ◌∷◌, IfOk, IfSome, IfNone, Some, None, if◌then◌else◌};
+ghost use Rattle.xb_words.specs.Table.{IsRising};
 ghost use Rattle.xb_values.specs.Prefixes.{prefix_cmp};
 ghost use Rattle.bgp_update.specs.Heard.{heard as heard_of};
 ghost use Rattle.bgp_update.specs.Walks.{prefixes_from};
@@ -12,8 +11,8 @@ use crate::section::Section;
 use bgp_update::{Messages, Prefixes, UpdateView};
 use std::alloc::{AllocError, Global};
 use std::collections::BTreeMap;
+use std::collections::btree_map::Iter;
 use std::marker::Model;
-use std::ops::Bound;
 use thiserror::Error;
 use xb_values::Prefix;
 use xb_wire::numbers::UPDATE;
@@ -28,16 +27,16 @@ pub enum HeardError {
     Bad { at: usize },
 }
 
-type Sections = BTreeMap<Prefix, Section>;
+type Sections<'a> = BTreeMap<Prefix, Section<'a>>;
 
-/// Prefixes, each with the section of path attributes that announced it last. It takes memory for each prefix and for
-/// each UPDATE that announces prefixes, so no more than in proportion to the stream.
+/// Prefixes, each with the section of path attributes that announced it last. It takes memory for each prefix, so no
+/// more than in proportion to the stream, whose octets it borrows.
 #[derive(Drop)]
-pub struct Table {
-    sections: Sections,
+pub struct Table<'a> {
+    sections: Sections<'a>,
 }
 
-impl Model for Table {
+impl<'a> Model for Table<'a> {
     ghost use Rattle.xb_values.specs.Prefixes.{Sections};
 
     ghost Value = { Sections };
@@ -45,42 +44,45 @@ impl Model for Table {
     ghost view = { λ t. t.sections.entries };
 }
 
-impl Table {
-    /// The first prefix after the one given, or the first of all if none is given, with its section. None after the
-    /// last.
-    pub fn after(&self, after: Option<Prefix>) -> Option<(Prefix, &[u8])>
-        ensures entry { option_map (λ e. (e.0, e.1.now)) result ≡ entry_after prefix_cmp self.now after }
+/// The entries of a table by rising prefix. Contracts see those that are still to come.
+#[derive(Drop)]
+pub struct Entries<'t, 'a> {
+    rest: Iter<'t, Prefix, Section<'a>>,
+}
+
+impl<'t, 'a> Model for Entries<'t, 'a> {
+    ghost use Rattle.xb_values.specs.Prefixes.{Sections};
+
+    ghost Value = { Sections };
+
+    ghost view = { λ e. e.rest };
+}
+
+impl<'a> Table<'a> {
+    /// All entries, in order.
+    pub fn entries(&self) -> Entries<'_, 'a>
+        ensures all { result ≡ self.now }
         ensures rising { IsRising prefix_cmp self.now }
     {
-        let (prefix, section) = match after {
-            None => first_of(&self.sections)?,
-            Some(prefix) => first_after(&self.sections, prefix)?,
-        };
+        Entries {
+            rest: self.sections.iter(),
+        }
+    }
+}
+
+impl<'t, 'a> Entries<'t, 'a> {
+    /// The next prefix with its section.
+    pub fn next(&mut self) -> Option<(Prefix, &'a [u8])>
+        ensures entry { IfSome result (λ e. self.old ≡ (e.0, e.1.now) ∷ self.new) }
+        ensures end { IfNone result ((self.old ≡ []) × (self.new ≡ [])) }
+    {
+        let (prefix, section) = self.rest.next()?;
         Some((*prefix, section.as_slice()))
     }
 }
 
-// The first entry.
-fn first_of(sections: &Sections) -> Option<(&Prefix, &Section)>
-    ensures entry { option_map (λ e. (e.0.now, e.1.now)) result ≡ entry_after prefix_cmp sections.now.entries None }
-    ensures rising { IsRising prefix_cmp sections.now.entries }
-{
-    sections.iter().next()
-}
-
-// The first entry after a prefix.
-fn first_after(sections: &Sections, prefix: Prefix) -> Option<(&Prefix, &Section)>
-    ensures entry { option_map (λ e. (e.0.now, e.1.now)) result
-        ≡ entry_after prefix_cmp sections.now.entries (Some prefix) }
-    ensures rising { IsRising prefix_cmp sections.now.entries }
-{
-    sections
-        .range((Bound::Excluded(prefix), Bound::Unbounded))
-        .next()
-}
-
 // Removes the prefixes that octets write. False if the octets are not prefixes to the end.
-fn withdraw(sections: &mut Sections, octets: &[u8]) -> bool
+fn withdraw(sections: &mut Sections<'_>, octets: &[u8]) -> bool
     ensures { withdrawn (prefixes_from octets.now) sections.old.entries
         ≡ (if result then Some sections.new.entries else None) }
 {
@@ -95,34 +97,28 @@ fn withdraw(sections: &mut Sections, octets: &[u8]) -> bool
 }
 
 // Enters the section at the prefixes that octets write. False if the octets are not prefixes to the end.
-#[tactic(auto, using(crate::proofs::HeardLemmas::announce_nothing))]
-fn announce(
-    alloc: Global,
-    sections: &mut Sections,
+fn announce<'a>(
+    sections: &mut Sections<'a>,
     octets: &[u8],
-    section: &[u8],
+    section: &'a [u8],
 ) -> Result<bool, AllocError>
     ensures { IfOk result
         (λ whole. announced (prefixes_from octets.now) section.now sections.old.entries
         ≡ (if whole then Some sections.new.entries else None)) }
 {
-    if octets.is_empty() {
-        return Ok(true);
-    }
-    let section = Section::copy_of(alloc, section)?;
     let mut prefixes = Prefixes::new(octets);
     'prefixes: while let Some(next) = prefixes.next() {
         let Ok(prefix) = next else {
             return Ok(false);
         };
-        let _ = sections.insert(prefix, section.share()?)?;
+        let _ = sections.insert(prefix, Section::new(section))?;
     }
     Ok(true)
 }
 
 // Applies an UPDATE. False if it cannot be read.
 #[tactic(auto, unfolding(crate::specs::Steps::update_step))]
-fn update(alloc: Global, sections: &mut Sections, body: &[u8]) -> Result<bool, AllocError>
+fn update<'a>(sections: &mut Sections<'a>, body: &'a [u8]) -> Result<bool, AllocError>
     ensures { IfOk result
         (λ whole. update_step body.now sections.old.entries
         ≡ (if whole then Some sections.new.entries else None)) }
@@ -133,13 +129,13 @@ fn update(alloc: Global, sections: &mut Sections, body: &[u8]) -> Result<bool, A
     if !withdraw(sections, update.withdrawn()) {
         return Ok(false);
     }
-    announce(alloc, sections, update.nlri(), update.section())
+    announce(sections, update.nlri(), update.section())
 }
 
 /// The table of a stream of whole messages. Messages other than UPDATE change nothing, and path attributes are not
 /// judged. The memory that it takes grows in proportion to the stream.
 #[tactic(auto, using(crate::proofs::HeardLemmas::heard_by_steps))]
-pub fn heard(alloc: Global, bytes: &[u8]) -> Result<Table, HeardError>
+pub fn heard<'a>(alloc: Global, bytes: &'a [u8]) -> Result<Table<'a>, HeardError>
     ensures { GivesTable result (heard_of bytes.now) }
 {
     let mut sections = BTreeMap::new(alloc);
@@ -150,7 +146,7 @@ pub fn heard(alloc: Global, bytes: &[u8]) -> Result<Table, HeardError>
             Err(at) => return Err(HeardError::Bad { at }),
         };
         if message.kind == UPDATE {
-            match update(alloc, &mut sections, message.body) {
+            match update(&mut sections, message.body) {
                 Ok(true) => {}
                 Ok(false) => return Err(HeardError::Bad { at: message.at }),
                 Err(AllocError) => return Err(HeardError::OutOfMemory),

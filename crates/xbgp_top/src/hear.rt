@@ -39,24 +39,23 @@ fn write_entry(
 // Gathers the lines of a table on a page.
 fn gather_table<K: Sink>(
     alloc: Global,
-    table: &Table,
+    table: &Table<'_>,
     page: &mut Buf,
     sink: &mut K,
 ) -> Result<(), Halt>
     ensures { Gathers K.took K.faults sink.old sink.new page.old.octets page.new.octets (table_lines table.now) result }
 {
     let mut line = Buf::make(alloc, LINE)?;
-    let mut last = None;
-    'entries: while let Some(entry) = table.after(last) {
+    let mut entries = table.entries();
+    'entries: while let Some(entry) = entries.next() {
         write_entry(alloc, &mut line, entry.0, entry.1)?;
         gather(page, line.as_slice(), sink)?;
-        last = Some(entry.0);
     }
     Ok(())
 }
 
 // Writes the lines of a table and the last line.
-fn put_table<K: Sink>(alloc: Global, table: &Table, sink: &mut K) -> Result<(), Halt>
+fn put_table<K: Sink>(alloc: Global, table: &Table<'_>, sink: &mut K) -> Result<(), Halt>
     ensures { Puts K.took K.faults sink.old sink.new (table_lines table.now ++ end_line) result }
 {
     let mut page = Buf::make(alloc, PAGE)?;
