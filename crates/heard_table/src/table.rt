@@ -1,6 +1,7 @@
 // The table, and how it is made from a stream.
 ghost use Rattle.std.specs.Prelude.{◌≡◌, [], ◌∷◌, IfOk, IfSome, IfNone, Some, None, if◌then◌else◌};
-ghost use Rattle.xb_words.specs.Table.{IsRising};
+ghost use Rattle.std.specs.Option.{option_map};
+ghost use Rattle.xb_words.specs.Table.{entry_after, IsRising};
 ghost use Rattle.xb_values.specs.Prefixes.{prefix_cmp};
 ghost use Rattle.bgp_update.specs.Heard.{heard as heard_of};
 ghost use Rattle.bgp_update.specs.Walks.{prefixes_from};
@@ -13,6 +14,7 @@ use std::alloc::{AllocError, Global};
 use std::collections::BTreeMap;
 use std::collections::btree_map::Iter;
 use std::marker::Model;
+use std::ops::Bound;
 use thiserror::Error;
 use xb_values::Prefix;
 use xb_wire::numbers::UPDATE;
@@ -68,6 +70,41 @@ impl<'a> Table<'a> {
             rest: self.sections.iter(),
         }
     }
+
+    /// The first prefix after the one given, or the first of all if none is given, with its section. None after the
+    /// last. To walk over all entries, [`Table::entries`] is faster.
+    pub fn after(&self, after: Option<Prefix>) -> Option<(Prefix, &[u8])>
+        ensures entry { option_map (λ e. (e.0, e.1.now)) result ≡ entry_after prefix_cmp self.now after }
+        ensures rising { IsRising prefix_cmp self.now }
+    {
+        let (prefix, section) = match after {
+            None => first_of(&self.sections)?,
+            Some(prefix) => first_after(&self.sections, prefix)?,
+        };
+        Some((*prefix, section.as_slice()))
+    }
+}
+
+// The first entry.
+fn first_of<'t, 'a>(sections: &'t Sections<'a>) -> Option<(&'t Prefix, &'t Section<'a>)>
+    ensures entry { option_map (λ e. (e.0.now, e.1.now)) result ≡ entry_after prefix_cmp sections.now.entries None }
+    ensures rising { IsRising prefix_cmp sections.now.entries }
+{
+    sections.iter().next()
+}
+
+// The first entry after a prefix.
+fn first_after<'t, 'a>(
+    sections: &'t Sections<'a>,
+    prefix: Prefix,
+) -> Option<(&'t Prefix, &'t Section<'a>)>
+    ensures entry { option_map (λ e. (e.0.now, e.1.now)) result
+        ≡ entry_after prefix_cmp sections.now.entries (Some prefix) }
+    ensures rising { IsRising prefix_cmp sections.now.entries }
+{
+    sections
+        .range((Bound::Excluded(prefix), Bound::Unbounded))
+        .next()
 }
 
 impl<'t, 'a> Entries<'t, 'a> {
