@@ -145,8 +145,8 @@ fn write_units(out: &mut [u8], path: &[u8], units: usize, wide: bool)
     }
 }
 
-// Writes the first units of a path in the other width, and then `after`, to the front of `out`. All units are written if
-// `units` is the path's length, since each has an octet at least.
+// Writes the first units of a path in the other width, and then `after`, to the front of `out`. All units are written
+// if `units` is the path's length, since each has an octet at least.
 fn units_into(path: &[u8], units: usize, wide: bool, after: &[u8], out: &mut [u8]) -> Option<usize>
     requires { is_path (width_of wide) path.now ≡ true }
     ensures { WritesFront result out.old out.new (units_octets wide units path.now ++ after.now) }
@@ -184,8 +184,8 @@ pub fn narrow_into(value: &[u8], out: &mut [u8]) -> Option<usize>
 
 /// Writes the path that an AS_PATH with AS numbers of two octets and an AS4_PATH say together to the front of `out`,
 /// with four octets for each number, and returns its length: what the first has before the hops of the second, and
-/// then the second, or the first alone if it has fewer hops (RFC 6793, section 4.2.3). None if it does not fit: `out` is
-/// then unchanged.
+/// then the second, or the first alone if it has fewer hops (RFC 6793, section 4.2.3). None if it does not fit: `out`
+/// is then unchanged.
 pub fn merge_into(path: &[u8], path4: &[u8], out: &mut [u8]) -> Option<usize>
     requires path { is_path 2 path.now ≡ true }
     requires path4 { is_path 4 path4.now ≡ true }
