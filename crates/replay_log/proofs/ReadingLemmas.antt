@@ -1,24 +1,13 @@
--- A line that is read octet by octet.
+-- A line that is read octet by octet, and how its octets are found.
 use Rattle.std.proofs.Common.{◌≡◌, refl, sym, ap, ◌∙◌, inl, inr, ℕ, suc, ◌+◌, ◌-◌, ◌<◌, ◌≤◌, Bool, true, false, ◌==◌, nat_lt, if◌then◌else◌, List, [], ◌∷◌, ◌++◌, length, take, drop, get_or, Option, Some, None, slice_get, IfSome, MatchOption, arith, length-append, drop-cons, zero-add}
 use Rattle.std.specs.List.{position_or_len}
 use Rattle.std.proofs.lemmas.Bool.{cases_Bool, cases_lt, eqb-true, eqb-false, eq-eqb, ne_eqb, lt-ltb, le-ltb}
 use Rattle.std.proofs.lemmas.List.{append_assoc, append-nil, take_at, drop_all, length-take, get_or-take}
-use Rattle.std.proofs.lemmas.Option.{slice_get-get_or, slice_get_within, get_or_from_slice_get}
-use Rattle.xb_io.specs.Causes.{Files, file_named}
-use Rattle.xb_values.specs.Buffers.{Buffer, Appends}
 use Rattle.replay_log.specs.declared.limits.TheConstants.{LINE_LIMIT, LOG_LIMIT}
 use Rattle.replay_log.specs.Logs.{line_size}
 use Rattle.replay_log.specs.declared.reader.Got.{Got}
 use Rattle.replay_log.specs.declared.reader.Got.TheVariants.{Line, End, LineTooLong, TooLong, Failed}
-use Rattle.replay_log.specs.Readings.{Next, Reading, got_view, IsReadAhead, next_line, next_end, next_line_too_long, next_log_too_long, by_size, next_in, next_at}
-
--- what comes, if the octets `front` of the line were read, the next octet's offset is `place`, and those in `rest` are left before the limit
-abbrev pub scan : ℕ → Bool → List ℕ → List ℕ → Next
-scan place longer front [] = if longer then next_log_too_long else if length front == 0 then next_end else next_line front place
-scan place longer front (c ∷ rest) =
-    if c == 10 then next_line front (place + 1)
-    else if length front == LINE_LIMIT then next_line_too_long
-    else scan (place + 1) longer (front ++ c ∷ []) rest
+use Rattle.replay_log.specs.Readings.{Next, Reading, got_view, scan, next_line, next_end, next_line_too_long, next_log_too_long, by_size, next_in, next_at}
 
 -- the index of the first line end
 abbrev pub end_in : List ℕ → ℕ
@@ -114,79 +103,26 @@ pub left_at-start : (start : ℕ) (log : List ℕ) → left_at start [] log ≡ 
 unfolding next_at
 left_at-start start log = scan-next_in start start (nat_lt LOG_LIMIT (length log)) [] (drop start (take LOG_LIMIT log)) refl (omega arith) (omega arith)
 
--- an octet that is not there is at or after the end
-past-slice_get : (s : List ℕ) (i : ℕ) → None ≡ slice_get s i → length s ≤ i
-past-slice_get s i none =
-    elim (cases_lt i (length s)) [
-      | inl within ↦ let wrong : None ≡ Some (get_or s i 0) = none ∙ slice_get-get_or s i 0 within in cc wrong
-      | inr past ↦ past
-    ]
-
--- at the end of the log, at its limit, and at an octet before them
-pub left_at-past : (place : ℕ) (front log : List ℕ) → None ≡ slice_get log place → place ≤ LOG_LIMIT → left_at place front log ≡ (if length front == 0 then next_end else next_line front place)
-left_at-past place front log none at =
-    let ended : length log ≤ place = past-slice_get log place none in
+-- at the end of the log, with a line before it or none, and at its limit
+left_at-past : (place : ℕ) (front log : List ℕ) → length log ≤ place → place ≤ LOG_LIMIT → left_at place front log ≡ (if length front == 0 then next_end else next_line front place)
+left_at-past place front log ended at =
     let nothing : drop place (take LOG_LIMIT log) ≡ [] = drop_all place (take LOG_LIMIT log) (omega (arith, length-take LOG_LIMIT log)) in
     rw (nothing, le-ltb LOG_LIMIT (length log) (omega arith)) refl
 
-pub left_at-limit : (place c : ℕ) (front log : List ℕ) → Some c ≡ slice_get log place → LOG_LIMIT ≤ place → left_at place front log ≡ next_log_too_long
-left_at-limit place c front log some at =
-    let more : place < length log = slice_get_within log place c (sym some) in
+pub left_at-end : (place size : ℕ) (front log : List ℕ) → length log ≤ place → place ≤ LOG_LIMIT → size ≡ length front → size ≡ 0 → left_at place front log ≡ next_end
+left_at-end place size front log ended at is zero =
+    let empty : length front ≡ 0 = sym is ∙ zero in
+    left_at-past place front log ended at ∙ rw (eq-eqb (length front) 0 empty) refl
+
+pub left_at-last : (place size : ℕ) (front log : List ℕ) → length log ≤ place → place ≤ LOG_LIMIT → size ≡ length front → (size ≡ 0 → ⊥)
+    → left_at place front log ≡ next_line front place
+left_at-last place size front log ended at is some =
+    left_at-past place front log ended at ∙ rw (ne_eqb (length front) 0 (λ zero. some (is ∙ zero))) refl
+
+pub left_at-limit : (place : ℕ) (front log : List ℕ) → place < length log → LOG_LIMIT ≤ place → left_at place front log ≡ next_log_too_long
+left_at-limit place front log more at =
     let nothing : drop place (take LOG_LIMIT log) ≡ [] = drop_all place (take LOG_LIMIT log) (omega (arith, length-take LOG_LIMIT log)) in
     rw (nothing, lt-ltb LOG_LIMIT (length log) (omega arith)) refl
-
-pub left_at-octet : (place c : ℕ) (front log : List ℕ) → Some c ≡ slice_get log place → place < LOG_LIMIT
-    → left_at place front log ≡ scan place (nat_lt LOG_LIMIT (length log)) front (c ∷ drop (place + 1) (take LOG_LIMIT log))
-left_at-octet place c front log some at =
-    let t = take LOG_LIMIT log in
-    let within : place < length log = slice_get_within log place c (sym some) in
-    let here : place < length t = omega (arith, length-take LOG_LIMIT log) in
-    let is : get_or t place 0 ≡ c = get_or-take LOG_LIMIT log place 0 at ∙ get_or_from_slice_get log place c 0 (sym some) in
-    let next : suc place ≡ place + 1 = omega arith in
-    let split : drop place t ≡ c ∷ drop (place + 1) t = drop-cons t place 0 here ∙ rw (is, next) refl in
-    ap (scan place (nat_lt LOG_LIMIT (length log)) front) split
-
--- the same, by what the octet is
-pub left_at-line_end : (place : ℕ) (front log : List ℕ) → Some 10 ≡ slice_get log place → place < LOG_LIMIT → left_at place front log ≡ next_line front (place + 1)
-left_at-line_end place front log some at = left_at-octet place 10 front log some at
-
-pub left_at-full : (place c : ℕ) (front log : List ℕ) → Some c ≡ slice_get log place → place < LOG_LIMIT → (c ≡ 10 → ⊥) → length front ≡ LINE_LIMIT
-    → left_at place front log ≡ next_line_too_long
-left_at-full place c front log some at other full = left_at-octet place c front log some at ∙ rw (ne_eqb c 10 other, eq-eqb (length front) LINE_LIMIT full) refl
-
-pub left_at-more : (place c : ℕ) (front log : List ℕ) → Some c ≡ slice_get log place → place < LOG_LIMIT → (c ≡ 10 → ⊥) → length front < LINE_LIMIT
-    → left_at place front log ≡ left_at (place + 1) (front ++ c ∷ []) log
-left_at-more place c front log some at other fits =
-    left_at-octet place c front log some at ∙ rw (ne_eqb c 10 other, ne_eqb (length front) LINE_LIMIT (λ full. omega arith)) refl
-
--- the end of the log, with a line before it or none
-pub left_at-end : (place size : ℕ) (front log : List ℕ) → None ≡ slice_get log place → place ≤ LOG_LIMIT → size ≡ length front → size ≡ 0 → left_at place front log ≡ next_end
-left_at-end place size front log none at is zero =
-    let empty : length front ≡ 0 = sym is ∙ zero in
-    left_at-past place front log none at ∙ rw (eq-eqb (length front) 0 empty) refl
-
-pub left_at-last : (place size : ℕ) (front log : List ℕ) → None ≡ slice_get log place → place ≤ LOG_LIMIT → size ≡ length front → (size ≡ 0 → ⊥)
-    → left_at place front log ≡ next_line front place
-left_at-last place size front log none at is some =
-    left_at-past place front log none at ∙ rw (ne_eqb (length front) 0 (λ zero. some (is ∙ zero))) refl
-
--- a line that has no room has as many octets as it may
-length-full_line : (old new : Buffer) (c : ℕ) → Appends false old new (c ∷ []) → length old.octets ≤ LINE_LIMIT → old.capacity ≡ LINE_LIMIT → length old.octets ≡ LINE_LIMIT
-length-full_line old new c a short room =
-    elim (cases_lt (length old.octets) LINE_LIMIT) [
-      | inl fits ↦ let wrong : false ≡ true = a.fits.1 (omega arith) in cc wrong
-      | inr full ↦ omega arith
-    ]
-
--- the same for the buffer of the line: an octet that has no room in it, and one that was appended
-pub left_at-unpushed : (place c : ℕ) (old new : Buffer) (log : List ℕ) → Some c ≡ slice_get log place → place < LOG_LIMIT → (c ≡ 10 → ⊥)
-    → Appends false old new (c ∷ []) → length old.octets ≤ LINE_LIMIT → old.capacity ≡ LINE_LIMIT → left_at place old.octets log ≡ next_line_too_long
-left_at-unpushed place c old new log some at other a short room = left_at-full place c old.octets log some at other (length-full_line old new c a short room)
-
-pub left_at-pushed : (place c : ℕ) (old new : Buffer) (log : List ℕ) → Some c ≡ slice_get log place → place < LOG_LIMIT → (c ≡ 10 → ⊥)
-    → new ≡ record old { octets = old.octets ++ c ∷ [] } → length old.octets < LINE_LIMIT → left_at (place + 1) new.octets log ≡ left_at place old.octets log
-left_at-pushed place c old new log some at other is fits =
-    ap (λ (b : Buffer). left_at (place + 1) b.octets log) is ∙ sym (left_at-more place c old.octets log some at other fits)
 
 -- anything except `Line` is the same for each reader
 pub got_view-else : (got : Got) (r t : Reading) (P : Next → Type 0) → (got ≡ Line → ⊥) → IfSome (got_view got r) P → IfSome (got_view got t) P
@@ -195,12 +131,3 @@ got_view-else End r t P other h = h
 got_view-else LineTooLong r t P other h = h
 got_view-else TooLong r t P other h = h
 got_view-else Failed r t P other h = tt
-
--- a reader that has read nothing ahead
-pub IsReadAhead-none : (held : Option Files) (name : List ℕ) (r : Reading) → r.ahead ≡ [] → IsReadAhead held name r
-IsReadAhead-none None name r e = tt
-IsReadAhead-none (Some files) name r e =
-    elim (file_named files name) as (λ (o : Option (List ℕ)). MatchOption o (r.ahead ≡ []) (λ log. r.ahead ≡ take (length r.ahead) (drop r.at log))) [
-      | None ↦ e
-      | Some log ↦ rw e refl
-    ]

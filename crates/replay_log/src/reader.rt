@@ -1,13 +1,15 @@
-//! The lines of a log that a shelf holds, one after another, each octet read once.
-ghost use Rattle.std.specs.Prelude.{◌≡◌, ◌≢◌, ◌⊎◌, ℕ, ◌+◌, ◌<◌, ◌≤◌, List, [], length, slice_get, Some, IfOk, IfSome, IfErr, OnOk, OnErr, IsErr};
+//! The lines of a log that a shelf holds, one after another. Octets are read ahead by blocks.
+ghost use Rattle.std.specs.Prelude.{◌≡◌, ◌≢◌, ◌⊎◌, ℕ, ◌-◌, ◌<◌, ◌≤◌, List, [], length, take, Some, IfOk, IfSome};
 ghost use Rattle.xb_io.specs.Causes.{FaultsRose, IsMissing, told_file};
-ghost use Rattle.replay_log.specs.Readings.{next_at, got_view, IsReadAhead};
+ghost use Rattle.replay_log.specs.Readings.{next_at, got_view, AreAhead, IsReadAhead};
 
+use crate::ahead::Ahead;
 use crate::limits::{LINE_LIMIT, LOG_LIMIT};
+use crate::part::{Part, take_part};
 use std::alloc::{AllocError, Global};
 use std::marker::Model;
 use std::mem;
-use xb_io::{Failed, Shelf};
+use xb_io::Shelf;
 use xb_values::Buf;
 
 /// What a reader found at its offset.
@@ -25,13 +27,14 @@ pub enum Got {
     Failed,
 }
 
-/// Reads a log line by line, from its first. It reads no octet after the line's end.
+/// Reads a log line by line, from its first, by blocks of at most 16,384 octets.
 #[derive(Drop)]
 pub struct LogReader {
     line: Buf,
     // Memory for the next line, whose content means nothing between two calls.
     next: Buf,
     at: u64,
+    ahead: Ahead,
 }
 
 impl Model for LogReader {
@@ -41,38 +44,41 @@ impl Model for LogReader {
 
     ghost Value = { Reading };
 
-    ghost view = { λ r. record { line = (r.line).octets; at = r.at; ahead = [] } };
+    ghost view = { λ r. record { line = (r.line).octets; at = r.at; ahead = r.ahead } };
 
     ghost invariant = { λ r. (length (r.line).octets ≤ LINE_LIMIT) × ((r.line).capacity ≡ LINE_LIMIT)
         × ((r.next).capacity ≡ LINE_LIMIT) × (r.at ≤ LOG_LIMIT) };
 }
 
-// The octet at the offset `at`, or None after the last one.
-fn octet_at<S: Shelf>(shelf: &mut S, name: &str, at: u64) -> Result<Option<u8>, Failed>
-    ensures same { S.held shelf.new ≡ S.held shelf.old }
-    ensures octet { (log : List ℕ) → told_file (S.held shelf.old) name.now ≡ Some log
-        → IfOk result (λ o. o ≡ slice_get log at) }
-    ensures missing { IsMissing (S.held shelf.old) name.now → IsErr result }
-    ensures quiet { OnOk result (S.faults shelf.new ≡ S.faults shelf.old) }
-    ensures later { S.faults shelf.old ≤ S.faults shelf.new }
-    ensures cause { OnErr result
-        (FaultsRose (S.faults shelf.old) (S.faults shelf.new) ⊎ IsMissing (S.held shelf.old) name.now) }
+// The octets that begin at the offset `at`, up to the limit of a log.
+fn within_limit(octets: &[u8], at: u64) -> &[u8]
+    requires { at ≤ LOG_LIMIT }
+    ensures { result.now ≡ take (LOG_LIMIT - at) octets.now }
 {
-    let mut octet = [0u8];
-    match shelf.read(name, at, &mut octet)? {
-        0 => Ok(None),
-        _ => Ok(Some(octet[0])),
+    let most = LOG_LIMIT - at;
+    if octets.len() as u64 <= most {
+        octets
+    } else {
+        &octets[..most as usize]
     }
 }
 
 // Reads the line that begins at the offset `start` into the empty `line`, and returns the offset after its end.
-fn read_line<S: Shelf>(shelf: &mut S, name: &str, start: u64, line: &mut Buf) -> (Got, u64)
+fn read_line<S: Shelf>(
+    ahead: &mut Ahead,
+    shelf: &mut S,
+    name: &str,
+    start: u64,
+    line: &mut Buf,
+) -> (Got, u64)
     requires start { start ≤ LOG_LIMIT }
+    requires ahead { AreAhead (S.held shelf.old) name.now start ahead.old }
     requires empty { line.old ≡ record { octets = []; capacity = LINE_LIMIT } }
     ensures told { (log : List ℕ) → told_file (S.held shelf.old) name.now ≡ Some log
         → IfSome
         (got_view result.0 (record { line = line.new.octets; at = result.1; ahead = [] }))
         (λ next. next ≡ next_at log start) }
+    ensures ahead { result.0 ≡ Got.Line → AreAhead (S.held shelf.new) name.now result.1 ahead.new }
     ensures missing { IsMissing (S.held shelf.old) name.now → result.0 ≡ Got.Failed }
     ensures forward { result.0 ≡ Got.Line → start < result.1 }
     ensures within { result.1 ≤ LOG_LIMIT }
@@ -85,18 +91,30 @@ fn read_line<S: Shelf>(shelf: &mut S, name: &str, start: u64, line: &mut Buf) ->
         → FaultsRose (S.faults shelf.old) (S.faults shelf.new) ⊎ IsMissing (S.held shelf.old) name.now }
 {
     let mut at = start;
-    'octets: loop {
-        match octet_at(shelf, name, at) {
+    'parts: loop {
+        match ahead.fill(shelf, name, at) {
+            Ok(()) => {}
             Err(_) => return (Got::Failed, start),
-            Ok(None) if line.len() == 0 => return (Got::End, start),
-            Ok(None) => return (Got::Line, at),
-            Ok(Some(_)) if at >= LOG_LIMIT => return (Got::TooLong, start),
-            Ok(Some(b'\n')) => return (Got::Line, at + 1),
-            Ok(Some(octet)) => {
-                if !line.push(&[octet]) {
-                    return (Got::LineTooLong, start);
-                }
-                at += 1;
+        }
+        if ahead.as_slice().is_empty() {
+            if line.len() == 0 {
+                return (Got::End, start);
+            }
+            return (Got::Line, at);
+        }
+        if at >= LOG_LIMIT {
+            return (Got::TooLong, start);
+        }
+        let octets = within_limit(ahead.as_slice(), at);
+        match take_part(octets, line) {
+            Part::TooLongPart => return (Got::LineTooLong, start),
+            Part::LastPart(count) => {
+                ahead.skip(count);
+                return (Got::Line, at + count as u64);
+            }
+            Part::WholePart(count) => {
+                ahead.skip(count);
+                at += count as u64;
             }
         }
     }
@@ -111,6 +129,7 @@ impl LogReader {
             line: Buf::make(alloc, LINE_LIMIT)?,
             next: Buf::make(alloc, LINE_LIMIT)?,
             at: 0,
+            ahead: Ahead::make(alloc)?,
         })
     }
 
@@ -134,10 +153,12 @@ impl LogReader {
         ensures same { S.held shelf.new ≡ S.held shelf.old }
     {
         self.next.clear();
-        let (got, after) = read_line(shelf, name, self.at, &mut self.next);
+        let (got, after) = read_line(&mut self.ahead, shelf, name, self.at, &mut self.next);
         if got == Got::Line {
             mem::swap(&mut self.line, &mut self.next);
             self.at = after;
+        } else {
+            self.ahead.clear();
         }
         got
     }

@@ -123,7 +123,7 @@ fn an_empty_log_has_no_line(rt: HostRuntime) -> Result<(), Fail> {
 fn a_failed_read_is_no_end(rt: HostRuntime) -> Result<(), Fail> {
     let mut shelf = MemShelf::make(rt.alloc())?;
     shelf.add("log", b"up 1")?;
-    shelf.fail_at(5)?;
+    shelf.fail_at(2)?;
     let mut reader = LogReader::make(rt.alloc())?;
     let rows: [Row; 2] = [FAILED, (Got::Line, b"up 1")];
     expect(&rt, &mut reader, &mut shelf, "log", &rows);

@@ -3,10 +3,8 @@ use Rattle.std.proofs.Common.{inl, inr, [], ◌∷◌, length, Some, None, ◌&&
 use Rattle.std.proofs.lemmas.Nat.{pow_pos}
 use Rattle.std.proofs.Math.Nat.{mul-div_cancel, div-mul-le_self}
 use Rattle.std.proofs.lemmas.Bool.{cases_Bool, and_parts, leb-true}
-use Rattle.std.specs.Cmp.{IsTotalOrder}
-use Rattle.std.proofs.lemmas.Cmp.{on_total, then_total, nat_cmp_total}
 use Rattle.xb_words.specs.Cut.{IsSize}
-use Rattle.xb_values.specs.Prefixes.{prefix_of, prefix_cmp, IsPrefix, octets_for, prefix_size}
+use Rattle.xb_values.specs.Prefixes.{prefix_of, IsPrefix, octets_for, prefix_size}
 
 cleared-cleared : (a s : ℕ) → 0 < s → a / s * s / s * s ≡ a / s * s
 cleared-cleared a s h = ap (λ (q : ℕ). q * s) (mul-div_cancel (a / s) h)
@@ -33,7 +31,3 @@ prefix_size_is_size (len ∷ rest) n e =
           (omega (arith, n_is), omega (arith, n_is, here))
       | inr short ↦ let none : None ≡ Some n = rw short at e in cc none
     ]
-
--- the order of prefixes is total
-pub prefix_cmp_is_total : IsTotalOrder prefix_cmp
-prefix_cmp_is_total = then_total (on_total (λ p. p.addr) nat_cmp_total) (on_total (λ p. p.len) nat_cmp_total)

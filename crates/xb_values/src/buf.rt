@@ -102,7 +102,6 @@ impl Buf {
     }
 
     /// Replaces the octet at index `at`, from 0.
-    #[tactic(auto, using(crate::proofs::BufferLemmas::take_set_within))]
     pub fn set_at(&mut self, at: usize, byte: u8)
         requires { at < length self.old.octets }
         ensures { self.new ≡ record self.old { octets = slice_set self.old.octets at byte } }
