@@ -147,6 +147,7 @@ fn reordered(opcode: u8, bits: u64, x: u64) -> u64 {
     }
 }
 
+#[inline(never)]
 fn run(code: &[Insn], memory: &mut Memory, fuel: u32) -> End {
     let mut regs = [0_u64; 16];
     regs[1] = WINDOW;

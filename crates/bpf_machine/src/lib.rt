@@ -10,9 +10,10 @@
 //! proved for each world that keeps the contract of that trait. A world may borrow what it writes; `names` says that
 //! it still holds the same references after a call and after a run.
 //!
-//! `step` does one instruction, `compute` arithmetic and comparisons, `words` the arithmetic with signs. In specs/,
-//! `Words` defines arithmetic, `Steps` one instruction, `Running` a run, `Fuel` and `Worlds` the words of `laws`. This
-//! crate uses bpf_insn for the code and bpf_mem for the memory.
+//! `step` does one instruction: it has an arm for each opcode, in which the opcode is a constant, so that the compiler
+//! makes code for that opcode alone. `compute` has arithmetic and comparisons, `words` arithmetic with signs. In
+//! specs/, `Words` defines arithmetic, `Steps` one instruction, `Running` a run, `Fuel` and `Worlds` the words of
+//! `laws`. This crate uses bpf_insn for the code and bpf_mem for the memory.
 #![tactic(auto)]
 
 mod compute;

@@ -159,8 +159,8 @@ fn take_insn(
     }
 }
 
-// A match with an arm for each opcode that is listed. In its arm an opcode is a constant, so the compiler makes code for
-// that opcode alone, and one jump leads to it. An opcode that isn't listed is taken as well, but slower.
+// A match with an arm for each opcode that is listed. In its arm an opcode is a constant, so the compiler makes code
+// for that opcode alone, and one jump leads to it. An opcode that isn't listed is taken as well, but slower.
 macro_rules! match_opcodes {
     ($insn:ident, $regs:ident, $slot:ident, $memory:ident; $($opcode:literal)*) => {
         match $insn.opcode {
