@@ -15,11 +15,12 @@ find-code : (r : Route) (code : ℕ) → option_map (λ e. e.1) (find (λ e. e.0
 find-code [] code = refl
 find-code (e ∷ r) code = elim (eqb_tells e.0 code) [
   | inl here ↦ rw (nat_cmp-equal code e.0 (sym here.1), here.0) refl
-  | inr other ↦ elim (nat_cmp code e.0) as (λ o. nat_cmp code e.0 ≡ o → option_map (λ e. e.1) (find (λ e. e.0 == code) (e ∷ r)) ≡ attribute_at (e ∷ r) code) [
-    | Less ↦ λ is. rw (other.0, is) (find-code r code)
-    | Equal ↦ λ is. absurd (other.1 (sym (eq-nat_cmp code e.0 is)))
-    | Greater ↦ λ is. rw (other.0, is) (find-code r code)
-  ] refl
+  | inr other ↦ elim (nat_cmp code e.0) as (λ o. nat_cmp code e.0 ≡ o
+      → option_map (λ e. e.1) (find (λ e. e.0 == code) (e ∷ r)) ≡ attribute_at (e ∷ r) code) [
+        | Less ↦ λ is. rw (other.0, is) (find-code r code)
+        | Equal ↦ λ is. absurd (other.1 (sym (eq-nat_cmp code e.0 is)))
+        | Greater ↦ λ is. rw (other.0, is) (find-code r code)
+      ] refl
 ]
 
 -- the same of a lent node
@@ -33,4 +34,5 @@ node_found (Some n) r code e = ap (option_map (λ e. e.1)) e ∙ find-code r cod
 pub below_code-more : (r : Route) (from code n : ℕ) (old new : Route) → IsNext r from code → old ≡ below_code from r
     → new ≡ old ++ entry_of code (attribute_at r code) → n ≡ code → new ≡ below_code (n + 1) r
 below_code-more r from code n old new next is more same =
-    more ∙ ap (λ l. l ++ entry_of code (attribute_at r code)) is ∙ sym next.lower ∙ ap (λ k. below_code (k + 1) r) (sym same)
+    more ∙ ap (λ l. l ++ entry_of code (attribute_at r code)) is ∙ sym next.lower
+    ∙ ap (λ k. below_code (k + 1) r) (sym same)
