@@ -20,14 +20,16 @@ AppendsFront-appends : (done : Bool) (old new : Buffer) (text : List ℕ) → Ap
 AppendsFront-appends true old new text a = record {
   fits = a.fits;
   result = λ yes. a.result;
-  front = ap (λ (b : Buffer). take (length old.octets) b.octets) a.result ∙ take_at old.octets text (length old.octets) refl;
+  front = ap (λ (b : Buffer). take (length old.octets) b.octets) a.result
+      ∙ take_at old.octets text (length old.octets) refl;
   longer = omega (arith, ap (λ (b : Buffer). length b.octets) a.result, length-append old.octets text);
   capacity = ap (λ (b : Buffer). b.capacity) a.result;
 }
 AppendsFront-appends false old new text a = record {
   fits = a.fits;
   result = λ yes. let wrong : false ≡ true = yes in absurd (cc wrong);
-  front = ap (λ (b : Buffer). take (length old.octets) b.octets) a.result ∙ take_all (length old.octets) old.octets (omega arith);
+  front = ap (λ (b : Buffer). take (length old.octets) b.octets) a.result
+      ∙ take_all (length old.octets) old.octets (omega arith);
   longer = omega (arith, ap (λ (b : Buffer). length b.octets) a.result);
   capacity = ap (λ (b : Buffer). b.capacity) a.result;
 }
@@ -37,7 +39,8 @@ AppendsFront-then : (done : Bool) (old mid new : Buffer) (s t : List ℕ) → Ap
     → AppendsFront done mid new t → AppendsFront done old new (s ++ t)
 AppendsFront-then done old mid new s t a b =
     let is : mid ≡ record old { octets = old.octets ++ s } = a.result refl in
-    let size : length mid.octets ≡ length old.octets + length s = ap (λ (x : Buffer). length x.octets) is ∙ length-append old.octets s in
+    let size : length mid.octets ≡ length old.octets + length s =
+    ap (λ (x : Buffer). length x.octets) is ∙ length-append old.octets s in
     let whole = length-append s t in
     record {
       fits = (
@@ -69,14 +72,17 @@ AppendsFront-stop old new s t a = record {
 }
 
 -- a space and a word, of which the space does not fit
-pub next_stopped : (old mid : Buffer) (word : List ℕ) → Appends false old mid (32 ∷ []) → AppendsFront false old mid (32 ∷ word)
-next_stopped old mid word a = AppendsFront-stop old mid (32 ∷ []) word (AppendsFront-appends false old mid (32 ∷ []) a)
+pub next_stopped : (old mid : Buffer) (word : List ℕ) → Appends false old mid (32 ∷ [])
+    → AppendsFront false old mid (32 ∷ word)
+next_stopped old mid word a =
+    AppendsFront-stop old mid (32 ∷ []) word (AppendsFront-appends false old mid (32 ∷ []) a)
 
 -- a space and a word after it
 pub next_pushed : (done : Bool) (old mid new : Buffer) (word : List ℕ) → Appends true old mid (32 ∷ [])
     → Appends done mid new word → AppendsFront done old new (32 ∷ word)
 next_pushed done old mid new word a b =
-    AppendsFront-then done old mid new (32 ∷ []) word (AppendsFront-appends true old mid (32 ∷ []) a) (AppendsFront-appends done mid new word b)
+    AppendsFront-then done old mid new (32 ∷ []) word (AppendsFront-appends true old mid (32 ∷ []) a)
+    (AppendsFront-appends done mid new word b)
 
 pub ruleset next_word = (next_stopped, next_pushed)
 
@@ -96,13 +102,16 @@ line_begun old mid first words a done new left =
 
 -- the words that are left begin with the one at an index
 next_words : (others : List Word) (i : ℕ) (w : Word) → i < length others → w ≡ get_or others i w
-    → words_left (map word_view (drop i others)) ≡ (32 ∷ word_view w) ++ words_left (map word_view (drop (i + 1) others))
+    → words_left (map word_view (drop i others))
+    ≡ (32 ∷ word_view w) ++ words_left (map word_view (drop (i + 1) others))
 next_words others i w inside is =
     ap (λ ws. words_left (map word_view ws)) (drop-cons others i w inside)
-    ∙ ap (λ k. (32 ∷ word_view (get_or others i w)) ++ words_left (map word_view (drop k others))) (sym (add-one i))
+    ∙ ap (λ k. (32 ∷ word_view (get_or others i w)) ++ words_left (map word_view (drop k others)))
+    (sym (add-one i))
     ∙ ap (λ v. (32 ∷ word_view v) ++ words_left (map word_view (drop (i + 1) others))) (sym is)
 
-module _ (others : List Word) (i : ℕ) (w : Word) (old out mid : Buffer) (text : List ℕ) (inside : i < length others) (is : w ≡ get_or others i w)
+module _ (others : List Word) (i : ℕ) (w : Word) (old out mid : Buffer) (text : List ℕ)
+    (inside : i < length others) (is : w ≡ get_or others i w)
     (all : Finishes out (words_left (map word_view (drop i others))) old text) where
   -- a word that does not fit
   pub word_stopped : AppendsFront false out mid (32 ∷ word_view w) → AppendsFront false old mid text
@@ -115,7 +124,8 @@ module _ (others : List Word) (i : ℕ) (w : Word) (old out mid : Buffer) (text 
       → Finishes mid (words_left (map word_view (drop (i + 1) others))) old text
   word_taken a done new left =
       all done new (subst (AppendsFront done out new) (sym (next_words others i w inside is))
-      (AppendsFront-then done out mid new (32 ∷ word_view w) (words_left (map word_view (drop (i + 1) others))) a left))
+      (AppendsFront-then done out mid new (32 ∷ word_view w)
+      (words_left (map word_view (drop (i + 1) others))) a left))
 
 -- the end of a line
 pub line_ended : (done : Bool) (others : List Word) (i : ℕ) (old out new : Buffer) (text : List ℕ) → length others ≤ i

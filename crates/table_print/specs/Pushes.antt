@@ -27,4 +27,5 @@ pub record AppendsFront (done : Bool) (old new : Buffer) (text : List ℕ) : Typ
 
 -- whatever comes of a rest that is appended to a buffer, comes of the whole text that was begun at another
 abbrev pub Finishes : Buffer → List ℕ → Buffer → List ℕ → Type 0
-Finishes out rest old text = (done : Bool) (new : Buffer) → AppendsFront done out new rest → AppendsFront done old new text
+Finishes out rest old text =
+    (done : Bool) (new : Buffer) → AppendsFront done out new rest → AppendsFront done old new text
