@@ -8,11 +8,10 @@ use Rattle.std.proofs.lemmas.Bool.{cases_Bool, ltb-true, ltb-false, le-leb, lt-l
 use Rattle.std.proofs.lemmas.List.{length-append, length-drop, take_at, append-nil}
 use Rattle.std.specs.List.Sorted.{IsStrictlySortedBy}
 use Rattle.std.specs.Map.{keys_of}
-use Rattle.std.proofs.Common.{append_assoc}
 use Rattle.bgp_attr.specs.declared.TheConstants.{MAX_CANONICAL}
 use Rattle.bgp_attr.specs.Routes.{Attribute, Route, attribute_at, canon, canonical, kept_flags, IsEntry, IsRoute}
 use Rattle.xbgp_view.specs.Views.{code_from, copied, flags_and_length}
-use Rattle.xbgp_view.specs.Sections.{entry_octets, below_code, from_code}
+use Rattle.xbgp_view.specs.Sections.{entry_of, entry_octets, below_code, from_code}
 use Rattle.xbgp_view.proofs.CanonicalLemmas.{length-value-canonical}
 use Rattle.xbgp_view.proofs.FoundLemmas.{canon-append}
 use Rattle.xbgp_view.proofs.LowerLemmas.{below_code-from_code, nat_cmp-greater, nat_cmp-equal, lt-nat_cmp}
@@ -77,7 +76,18 @@ IsRead-copied r code flags n old new is told size e =
 pub record IsNext (r : Route) (from code : ℕ) : Type 0 where
   pub past : from ≤ code
   pub inside : code < 256
-  pub lower : canon (below_code (code + 1) r) ≡ canon (below_code from r) ++ entry_octets code (attribute_at r code)
+  pub lower : below_code (code + 1) r ≡ below_code from r ++ entry_of code (attribute_at r code)
+
+canon-entry_of : (code : ℕ) (o : Option Attribute) → canon (entry_of code o) ≡ entry_octets code o
+canon-entry_of code None = refl
+canon-entry_of code (Some a) = append-nil (canonical (code, a))
+
+-- so the octets of the next entry follow those of the entries below
+pub canon-below_code-next : (r : Route) (from code : ℕ) → IsNext r from code → canon (below_code (code + 1) r) ≡ canon (below_code from r) ++ entry_octets code (attribute_at r code)
+canon-below_code-next r from code next =
+    ap canon next.lower
+    ∙ canon-append (below_code from r) (entry_of code (attribute_at r code))
+    ∙ ap (λ t. canon (below_code from r) ++ t) (canon-entry_of code (attribute_at r code))
 
 none_lower : (code k : ℕ) (r : Route) → code ≤ k → AllByRecursion (λ x. nat_cmp k x ≡ Less) (keys_of r) → below_code (code + 1) r ≡ []
 none_lower code k [] l all = refl
@@ -98,7 +108,7 @@ IsNext-code_from (x ∷ r) from code all rising e = elim (cases_Bool (nat_lt x.0
         past = n.past;
         inside = n.inside;
         lower = rw (below, lt-ltb x.0 (code + 1) (omega (arith, before)), nat_cmp-greater code x.0 before)
-            (ap (λ t. canonical x ++ t) n.lower ∙ sym (append_assoc (canonical x) (canon (below_code from r)) (entry_octets code (attribute_at r code))));
+            (ap (λ (l : Route). x ∷ l) n.lower);
       }
   | inr here ↦
       let yes : nat_le from x.0 ≡ true = le-leb from x.0 (ltb-false x.0 from here) in
@@ -108,7 +118,7 @@ IsNext-code_from (x ∷ r) from code all rising e = elim (cases_Bool (nat_lt x.0
         past = omega (arith, same, ltb-false x.0 from here);
         inside = omega (arith, same, all.0.code);
         lower = rw (here, lt-ltb x.0 (code + 1) (omega (arith, same)), nat_cmp-equal code x.0 same, none_lower code x.0 r (omega (arith, same)) rising.0)
-            (append-nil (canonical x) ∙ ap (λ k. canonical (k, x.1)) (sym same));
+            (ap (λ k. (k, x.1) ∷ []) (sym same));
       }
 ]
 

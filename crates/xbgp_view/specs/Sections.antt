@@ -1,5 +1,5 @@
--- Canonical sections. The words after the first two are for the private functions of find.rt and overlay.rt: the parts
--- of a canonical section around one code.
+-- Canonical sections. The words after the first three are for the private functions of find.rt and overlay.rt: the
+-- parts of a canonical section around one code.
 use Rattle.std.specs.Prelude.{◌≡◌, ◌≤◌, ℕ, List, [], ◌∷◌, length, take, drop, nat_lt, nat_le, ◌==◌, if◌then◌else◌, ◌+◌}
 use Rattle.std.specs.Prelude.{Option, Some, None, Result, Ok, Err}
 use Rattle.bgp_attr.specs.Routes.{Attribute, Route, route_of, canon, canonical, kept_flags, IsRoute}
@@ -16,6 +16,11 @@ pub record IsCanonical (section : List ℕ) : Type 0 where
 abbrev pub entry_octets : ℕ → Option Attribute → List ℕ
 entry_octets code None = []
 entry_octets code (Some a) = canonical (code, a)
+
+-- the entry of an attribute, if it is there
+abbrev pub entry_of : ℕ → Option Attribute → Route
+entry_of code None = []
+entry_of code (Some a) = (code, a) ∷ []
 
 -- the entries below a code
 abbrev pub below_code : ℕ → Route → Route

@@ -1,6 +1,7 @@
 -- What a view shows of a neutral route (this project's own, over path attributes of RFC 4271, section 4.3).
 use Rattle.std.specs.Prelude.{ℕ, List, ◌++◌, length, drop, Option, Some, None, find, nat_le, nat_lt, if◌then◌else◌}
 use Rattle.std.specs.Option.{option_map}
+use Rattle.xb_values.specs.Prefixes.{Prefix}
 use Rattle.bgp_attr.specs.Routes.{Attribute, Route, attribute_at}
 
 -- the flags of an attribute, and how long its value is
@@ -25,3 +26,7 @@ copied (Some a) old = if nat_lt (length old) (length a.value) then old else a.va
 pub record Edited : Type 0 where
   pub route : Route
   pub kept : Route
+
+-- routes by prefix: a finite map, as its entries by rising prefix
+abbrev pub Routes : Type 0
+Routes = List (Prefix × Route)

@@ -89,7 +89,7 @@ pub(crate) fn gap_at(section: &[u8], code: u8) -> Gap
 }
 
 /// Copies a value to the front of a slice and returns its length, or None if it is longer than the slice.
-pub(crate) fn copy_value(value: &[u8], out: &mut [u8]) -> Option<usize>
+pub fn copy_value(value: &[u8], out: &mut [u8]) -> Option<usize>
     ensures answer { result ≡ (if nat_lt (length out.old) (length value.now) then None else Some (length value.now)) }
     ensures octets { out.new ≡ (if nat_lt (length out.old) (length value.now)
         then out.old

@@ -21,6 +21,7 @@ mod section;
 mod spell;
 mod view;
 
+pub use find::copy_value;
 pub use overlay::Overlay;
 pub use section::SectionView;
 pub use spell::append_attribute;

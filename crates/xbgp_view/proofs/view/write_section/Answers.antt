@@ -4,7 +4,7 @@ use Rattle.xb_values.specs.Buffers.{Buffer}
 use Rattle.bgp_attr.specs.Routes.{attribute_at, canon}
 use Rattle.xbgp_view.specs.Sections.{entry_octets, below_code}
 use Rattle.xbgp_view.proofs.EditsLemmas.{IsCanonical-spelled}
-use Rattle.xbgp_view.proofs.ViewsLemmas.{below_code-all, IsNext-code_from, length-canon-below_code, below_code-zero}
+use Rattle.xbgp_view.proofs.ViewsLemmas.{below_code-all, canon-below_code-next, IsNext-code_from, length-canon-below_code, below_code-zero}
 use Rattle.xbgp_view.proofs.view.write_section.Goals as goal
 
 pub codes-init : goal.codes-init
@@ -23,7 +23,7 @@ append_entry-requires-clause-room g c =
       c.requires,
       ap (λ (b : Buffer). length b.octets) c.codes.invariant.0,
       ap (λ (b : Buffer). b.capacity) c.codes.invariant.0,
-      ap length next.lower ∙ length-append (canon (below_code c.codes.from r)) (entry_octets c.in-Some.code (attribute_at r c.in-Some.code)),
+      ap length (canon-below_code-next r c.codes.from c.in-Some.code next) ∙ length-append (canon (below_code c.codes.from r)) (entry_octets c.in-Some.code (attribute_at r c.in-Some.code)),
       length-canon-below_code r (c.in-Some.code + 1),
       c.in-Some.ensures.shape.short,
     )
@@ -40,7 +40,7 @@ codes-preserved g c =
     let next = IsNext-code_from r c.codes.from c.in-Some.code c.in-Some.ensures.shape.entries c.in-Some.ensures.shape.rising c.in-Some.ensures.value in (
       c.append_entry.ensures.appended
           ∙ ap (λ (b : Buffer). record b { octets = b.octets ++ entry_octets c.in-Some.code (attribute_at r c.in-Some.code) }) c.codes.invariant.0
-          ∙ ap (λ t. record { octets = t; capacity = c.args.out.now.capacity }) (sym next.lower ∙ ap (λ n. canon (below_code (n + 1) r)) (sym c.from-from.ensures)),
+          ∙ ap (λ t. record { octets = t; capacity = c.args.out.now.capacity }) (sym (canon-below_code-next r c.codes.from c.in-Some.code next) ∙ ap (λ n. canon (below_code (n + 1) r)) (sym c.from-from.ensures)),
       c.append_entry.ensures.len,
       omega (arith, next.inside, c.from-from.ensures),
     )
