@@ -40,8 +40,8 @@ pub enum Stimulus {
     LinkUp,
     /// The transport was lost.
     LinkDown,
-    /// An OPEN that was accepted, with its hold time in seconds, the peer's identifier, and whether AS numbers have four
-    /// octets in the session (RFC 6793, section 3).
+    /// An OPEN that was accepted, with its hold time in seconds, the peer's identifier, and whether AS numbers have
+    /// four octets in the session (RFC 6793, section 3).
     OpenGood { hold: u16, id: u32, wide: bool },
     /// An OPEN in another state than OpenSent.
     OpenLate,

@@ -86,11 +86,7 @@ const OPENS: [Row; 10] = [
         Ok(SEEN),
     ),
     // the AS number is judged after the hold time, and after the parameters
-    (
-        65001,
-        &[4, 0, 7, 0, 1, 0xc0, 0, 2, 1, 0],
-        refused(6),
-    ),
+    (65001, &[4, 0, 7, 0, 1, 0xc0, 0, 2, 1, 0], refused(6)),
     (
         65001,
         &[4, 0, 7, 0, 0x5a, 0xc0, 0, 2, 1, 2, 1, 0],

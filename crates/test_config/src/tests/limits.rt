@@ -17,7 +17,8 @@ const PEER: &str = "[[peer]]\nas = 65001\naddress = '10.0.X.Y'\n";
 
 const COST: &str = "[[cost]]\nnext_hop = '10.0.X.Y'\ncost = 7\n";
 
-// What is before the entries of a list, an entry, the number of them, what is after them, and what is read of the whole.
+// What is before the entries of a list, an entry, the number of them, what is after them, and what is read of the
+// whole.
 type Case = (&'static str, &'static str, u32, &'static str, &'static str);
 
 const CASES: [Case; 9] = [

@@ -83,7 +83,10 @@ const ROWS: [Row; 6] = [
 #[test]
 fn a_session_comes_up_and_expires(rt: HostRuntime) -> Result<(), Fail> {
     let mut session = Session::new(90);
-    assert_eq!(rt; (session.state(), session.peer_id(), session.wide()), (State::Idle, 0, false));
+    assert_eq!(rt;
+        (session.state(), session.peer_id(), session.wide()),
+        (State::Idle, 0, false)
+    );
     for (now, what, acts, state, due, peer) in &ROWS {
         let reaction = session.on(u64::from(*now), *what);
         assert!(rt; are(&reaction, acts), "at {now}");
