@@ -9,8 +9,8 @@ use xb_values::Buf;
 // What is no value of a digit.
 const NO_DIGIT: u8 = 255;
 
-// The value of a digit, or NO_DIGIT. With an arm for each digit the compiler makes a table of it.
-#[inline(always)]
+// The value of a digit, or NO_DIGIT. With an arm for each digit the compiler makes a table of it, unless it is told to
+// inline it first.
 fn value_of(c: u8) -> u8
     ensures { hex_value c ≡ (if nat_lt result 16 then Some result else None) }
 {
@@ -35,7 +35,6 @@ fn value_of(c: u8) -> u8
     }
 }
 
-#[inline(always)]
 fn octet_of(high: u8, low: u8) -> Option<u8>
     ensures { result ≡ octet_value high low }
 {
