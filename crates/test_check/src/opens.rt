@@ -14,14 +14,29 @@ const WIDE: OpenSeen4 = OpenSeen4 {
     wide: true,
 };
 
-// An error of an OPEN without data.
-const fn refused(subcode: u8) -> Result<OpenSeen4, Notice<'static>> {
-    Err(Notice {
-        code: 2,
-        subcode,
-        extra: &[],
-    })
-}
+const BAD_VERSION: Notice<'static> = Notice {
+    code: 2,
+    subcode: 1,
+    extra: &[0, 4],
+};
+
+const BAD_PEER_AS: Notice<'static> = Notice {
+    code: 2,
+    subcode: 2,
+    extra: &[],
+};
+
+const UNSUPPORTED_PARAMETER: Notice<'static> = Notice {
+    code: 2,
+    subcode: 4,
+    extra: &[],
+};
+
+const UNACCEPTABLE_HOLD_TIME: Notice<'static> = Notice {
+    code: 2,
+    subcode: 6,
+    extra: &[],
+};
 
 // The peer's AS number, the body of an OPEN, and what is read.
 type Row = (u32, &'static [u8], Result<OpenSeen4, Notice<'static>>);
@@ -40,17 +55,13 @@ const OPENS: [Row; 10] = [
     (
         65001,
         &[4, 0xfd, 0xe9, 0, 0x5a, 0xc0, 0, 2, 1, 2, 1, 0],
-        refused(4),
+        Err(UNSUPPORTED_PARAMETER),
     ),
     // of version 3
     (
         65001,
         &[3, 0xfd, 0xe9, 0, 0x5a, 0xc0, 0, 2, 1, 0],
-        Err(Notice {
-            code: 2,
-            subcode: 1,
-            extra: &[0, 4],
-        }),
+        Err(BAD_VERSION),
     ),
     // AS 23456 and, in a second parameter, the capability of AS 200000
     (
@@ -67,7 +78,7 @@ const OPENS: [Row; 10] = [
             4, 0x5b, 0xa0, 0, 0x5a, 0xc0, 0, 2, 1, 16, 2, 6, 1, 4, 0, 1, 0, 1, 2, 6, 65, 4, 0, 3,
             0x0d, 0x40,
         ],
-        refused(2),
+        Err(BAD_PEER_AS),
     ),
     // the AS field is the peer's, and the capability is not
     (
@@ -75,7 +86,7 @@ const OPENS: [Row; 10] = [
         &[
             4, 0xfd, 0xe9, 0, 0x5a, 0xc0, 0, 2, 1, 8, 2, 6, 65, 4, 0, 3, 0x0d, 0x40,
         ],
-        refused(2),
+        Err(BAD_PEER_AS),
     ),
     // a capability 65 of two octets
     (
@@ -86,11 +97,15 @@ const OPENS: [Row; 10] = [
         Ok(SEEN),
     ),
     // the AS number is judged after the hold time, and after the parameters
-    (65001, &[4, 0, 7, 0, 1, 0xc0, 0, 2, 1, 0], refused(6)),
+    (
+        65001,
+        &[4, 0, 7, 0, 1, 0xc0, 0, 2, 1, 0],
+        Err(UNACCEPTABLE_HOLD_TIME),
+    ),
     (
         65001,
         &[4, 0, 7, 0, 0x5a, 0xc0, 0, 2, 1, 2, 1, 0],
-        refused(4),
+        Err(UNSUPPORTED_PARAMETER),
     ),
 ];
 

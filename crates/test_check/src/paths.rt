@@ -52,6 +52,9 @@ const PREPENDED: [(&[u8], usize, Option<usize>, [u8; 7]); 3] = [
 ];
 
 fn prepended(path: &[u8], room: usize) -> Option<(Option<usize>, [u8; 7])> {
+    if path.len() > 65_535 {
+        return None;
+    }
     let mut out = [0; 7];
     let len = Segments::new(path)?.prepend_into(65000, out.get_mut(..room)?);
     Some((len, out))
