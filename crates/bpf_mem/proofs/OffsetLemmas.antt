@@ -2,15 +2,15 @@
 use Rattle.std.proofs.Common.{◌≡◌, ◌≢◌, refl, sym, ap, ◌∙◌, subst, ℕ, zero, suc, ◌<◌, get_or, ◌+◌, ◌-◌, ◌≤◌, true, false, List, [], ◌∷◌, length, take, drop, replicate, Option, Some, None, is_some, IsSome, unwrap_or, option_map, arith, inl, inr}
 use Rattle.std.specs.Prelude.{◌==◌}
 use Rattle.std.specs.Int.{bytes_low_first}
-use Rattle.std.proofs.lemmas.Bool.{cases_Bool, eqb-true, eqb-false, eq-eqb, and_from, le-leb}
+use Rattle.std.proofs.lemmas.Bool.{cases_Bool, eqb-true, eqb-false, and_from, le-leb}
 use Rattle.std.proofs.lemmas.Bool.Decides.{nat_tests}
 use Rattle.std.proofs.lemmas.List.{take-append-drop, length-take-le, length-drop, take-replicate, drop-replicate, nil_from_length, take-take}
 use Rattle.xb_words.specs.Octets.{AreOctets}
 use Rattle.bpf_mem.specs.declared.regions.TheConstants.{STACK_BASE, HEAP_BASE, WINDOW_BASE}
-use Rattle.bpf_mem.specs.Memory.{Memory, IsMemory, store, replaced, is_within, region_part, octets_at, writable_at, with_octets, fresh}
+use Rattle.bpf_mem.specs.Memory.{Memory, IsMemory, IsAccessSize, store, replaced, is_within, region_part, octets_at, writable_at, with_octets, fresh}
 use Rattle.bpf_mem.specs.Offsets.{offset_in, writable_offset, memory_of, overwritten, lent}
-use Rattle.bpf_mem.proofs.NumberLemmas.{length-bytes_low_first}
-use Rattle.bpf_mem.proofs.PartLemmas.{overwritten-over, take-over-front, drop-over-front, take-over-back, drop-over-back, region_part-take, region_part-drop}
+use Rattle.bpf_mem.proofs.NumberLemmas.{take-bytes_low_first, length-bytes_low_first}
+use Rattle.bpf_mem.proofs.PartLemmas.{overwritten-over, overwritten-replaced, length-replaced, take-over-front, drop-over-front, take-over-back, drop-over-back, region_part-take, region_part-drop}
 
 -- what the offset of a range says of memory
 pub record IsOffset (os window : List ℕ) (addr n at : ℕ) : Type 0 where
@@ -145,6 +145,14 @@ IsMemory-memory_of os window size few a b = record {
   window_octets = b;
 }
 
+-- an access has at most eight octets
+pub IsAccessSize-few : (n : ℕ) → IsAccessSize n → n ≤ 8
+IsAccessSize-few n h =
+    elim h [
+      | inl p ↦ elim p [ inl e ↦ omega (arith, e) | inr e ↦ omega (arith, e) ]
+      | inr p ↦ elim p [ inl e ↦ omega (arith, e) | inr e ↦ omega (arith, e) ]
+    ]
+
 -- what the calls of `Memory` return, over plain values: `m` is the memory that the octets and the window are
 module _ (os window : List ℕ) (m : Memory) (addr n : ℕ) (size : length os ≡ 8704) (is : memory_of os window ≡ m) where
   -- `range` in the stack or the heap
@@ -179,47 +187,21 @@ module _ (os window : List ℕ) (m : Memory) (addr n : ℕ) (size : length os �
       let inside = (IsOffset-writable_offset os window size addr n at h).inside in
       ap (λ l. length l) e ∙ length-take-le n (drop at os) (omega (arith, length-drop at os, inside))
 
--- what was lent ends as a write of the octets that were left, if they are as many as before
-pub lent-same_length : (m : Memory) (addr n : ℕ) (w : List ℕ) → length w ≡ n → lent m addr n w ≡ unwrap_or (with_octets m addr w) m
-lent-same_length m addr n w e = rw (eq-eqb (length w) n e) refl
-
--- a range that may be written takes `n` octets
-pub with_octets-lent : (m : Memory) (addr n : ℕ) (w : List ℕ) → length w ≡ n → IsSome (writable_at m addr n) → with_octets m addr w ≡ Some (lent m addr n w)
-with_octets-lent m addr n w e h =
-    rw (lent-same_length m addr n w e) (
-    elim (cases_Bool (n == 0)) [
-      | inl z ↦ rw (rw (← e) at z) refl
-      | inr z ↦ elim (cases_Bool (is_within STACK_BASE 512 addr n)) [
-        | inl s ↦ rw (rw (← e) at z, rw (← e) at s) refl
-        | inr s ↦ elim (cases_Bool (is_within HEAP_BASE 8192 addr n)) [
-          | inl t ↦ rw (rw (← e) at z, rw (← e) at s, rw (← e) at t) refl
-          | inr t ↦ absurd (let p = rw (z, s, t) at h in cc)
-        ]
-      ]
-    ])
-
--- what is lent for writing is not in the window
-pub window-lent : (m : Memory) (addr n : ℕ) (w : List ℕ) → (lent m addr n w).window ≡ m.window
-window-lent m addr n w =
-    elim (cases_Bool (length w == n)) [
-      | inl e ↦ rw e (elim (cases_Bool (length w == 0)) [
-        | inl z ↦ rw z refl
-        | inr z ↦ elim (cases_Bool (is_within STACK_BASE 512 addr (length w))) [
-          | inl s ↦ rw (z, s) refl
-          | inr s ↦ elim (cases_Bool (is_within HEAP_BASE 8192 addr (length w))) [
-            | inl t ↦ rw (z, s, t) refl
-            | inr t ↦ rw (z, s, t) refl
-          ]
-        ]
-      ])
-      | inr e ↦ rw e refl
-    ]
-
--- a range that was left with the octets of a number makes it a store
-pub store-lent : (m : Memory) (addr n value : ℕ) (before after : List ℕ) → writable_at m addr n ≡ Some before → length before ≡ n → after ≡ bytes_low_first 0 (length before) value → store m addr n value ≡ Some (lent m addr n after)
-store-lent m addr n value before after there len e =
-    let octets : after ≡ bytes_low_first 0 n value = e ∙ ap (λ k. bytes_low_first 0 k value) len in
-    rw octets (with_octets-lent m addr n (bytes_low_first 0 n value) (length-bytes_low_first 0 n value) (rw there refl))
+  -- `store`: the room keeps its size, and what memory is afterwards
+  pub store-written : (o : Option ℕ) (at value : ℕ) (all now : List ℕ) → o ≡ writable_offset addr n → at ≡ unwrap_or o 0 → IsSome (writable_at m addr n) → IsAccessSize n → all ≡ bytes_low_first 0 8 value → now ≡ replaced os at (take n all) → (length now ≡ 8704) × (store m addr n value ≡ Some (memory_of now window))
+  store-written o at value all now e f some sized g h =
+      let offset = IsOffset-writable_offset os window size addr n at (writable_offset-there o at e f some) in
+      let w : List ℕ = take n all in
+      let octets : w ≡ bytes_low_first 0 n value = ap (λ l. take n l) g ∙ take-bytes_low_first n 0 8 value (IsAccessSize-few n sized) in
+      let len : length w ≡ n = ap (λ l. length l) octets ∙ length-bytes_low_first 0 n value in
+      let fits : at + length w ≤ length os = omega (arith, len, offset.inside) in
+      let same : overwritten os at w ≡ now = overwritten-replaced os at w fits ∙ sym h in (
+        ap (λ l. length l) h ∙ length-replaced os at w fits ∙ size,
+        ap (λ (x : Memory). store x addr n value) (sym is)
+            ∙ ap (λ (l : List ℕ). with_octets (memory_of os window) addr l) (sym octets)
+            ∙ offset.written w len
+            ∙ ap (λ (l : List ℕ). Some (memory_of l window)) same,
+      )
 
 -- whether a range may be written is the same in every memory
 pub is_some-writable_at : (m : Memory) (addr n : ℕ) → is_some (writable_at m addr n) ≡ is_some (writable_offset addr n)

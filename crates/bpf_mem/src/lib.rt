@@ -8,7 +8,8 @@
 //! at every address. Numbers are little-endian.
 //!
 //! `Room` is the room for a stack and a heap, allocated once. `Memory::over` clears it and lends it to one run with a
-//! window, so that one room serves one run after another. Inside, stack and heap are one vector, the stack first, and
+//! window, so that one room serves one run after another. It clears the octets up to the last one that was stored, and
+//! all of them after a range was lent for writing. Inside, stack and heap are one vector, the stack first, and
 //! `offsets` turns a range of addresses into an offset there.
 //!
 //! This crate uses xb_words alone. `specs/Memory` defines memory, and what a load and a store are.

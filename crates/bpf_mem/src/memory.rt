@@ -5,7 +5,7 @@ ghost use Rattle.std.specs.Borrow.{sem};
 ghost use Rattle.xb_words.specs.Octets.{AreOctets};
 ghost use Rattle.bpf_mem.specs.Memory.{fresh, octets_at, writable_at, IsMemory, IsAccessSize};
 
-use crate::numbers::{number_of, write_number};
+use crate::numbers::number_of;
 use crate::offsets::{has_offset, offset_in, writable_offset};
 use crate::regions::{MAX_WINDOW, WINDOW_BASE};
 use crate::room::Room;
@@ -131,7 +131,8 @@ impl<'a> Memory<'a> {
         if !self.is_writable(addr, size as u64) {
             return false;
         }
-        write_number(self.octets_mut(addr, size as u64), value);
+        let at = writable_offset(addr, size as u64).unwrap_or(0);
+        self.room.write(at, &value.to_le_bytes()[..size]);
         true
     }
 }

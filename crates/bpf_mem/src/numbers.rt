@@ -1,6 +1,5 @@
 // Numbers of up to eight octets, little-endian.
 ghost use Rattle.std.specs.Prelude.{◌≡◌, ◌≤◌, ◌<◌, ◌^◌, length};
-ghost use Rattle.std.specs.Int.{bytes_low_first};
 ghost use Rattle.bpf_mem.specs.Memory.{number_of};
 
 // The number in at most four octets.
@@ -34,14 +33,4 @@ pub(crate) fn number_of(octets: &[u8]) -> u64
         }
         _ => number_of_few(octets),
     }
-}
-
-// Writes the low octets of a number, as many as the slice has.
-#[inline(always)]
-pub(crate) fn write_number(octets: &mut [u8], value: u64)
-    requires { length octets.old ≤ 8 }
-    ensures { octets.new ≡ bytes_low_first 0 (length octets.old) value }
-{
-    let all = value.to_le_bytes();
-    octets.copy_from_slice(&all[..octets.len()]);
 }
