@@ -51,7 +51,7 @@ abbrev pub unbeaten : List Rank → Key → List Rank
 unbeaten ranks key = filter (λ r. not (is_beaten key ranks r)) ranks
 
 -- those that are left after all keys
-abbrev pub survivors : List Rank → List Rank
+unfoldable pub survivors : List Rank → List Rank
 survivors ranks = fold unbeaten ranks keys
 
 -- the index of the one that is left, by its address

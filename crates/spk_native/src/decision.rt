@@ -1,5 +1,5 @@
 // The decision of a set of candidates.
-ghost use Rattle.std.specs.Prelude.{◌≡◌, ◌<◌, ◌≤◌, [], ◌∷◌, length, slice_index_or};
+ghost use Rattle.std.specs.Prelude.{◌≡◌, ◌<◌, ◌≤◌, [], ◌∷◌, length, position, slice_index_or};
 ghost use Rattle.bgp_attr.specs.Paths.{hops as path_hops, leftmost as path_leftmost, path_ok};
 ghost use Rattle.bgp_attr.specs.Routes.{as_width};
 ghost use Rattle.spk_native.specs.Values.{HasNoFault, path_of, value_or_none};
@@ -141,6 +141,13 @@ fn keep_unbeaten(key: Key, ranks: &[Rank], left: &mut [bool; MAX_CANDIDATES])
     }
 }
 
+// The index of the first that is left.
+fn first_left(left: &[bool]) -> Option<usize>
+    ensures { result ≡ position (λ b. b) left.now }
+{
+    left.iter().position(|left| *left)
+}
+
 /// The index of the best of some candidates: of the ranks that the keys before leave, each key keeps those than which
 /// no other one left is better (RFC 4271, section 9.1.2.2).
 pub fn survivor(ranks: &[Rank]) -> usize
@@ -155,5 +162,5 @@ pub fn survivor(ranks: &[Rank]) -> usize
     for key in KEYS {
         keep_unbeaten(key, ranks, &mut left);
     }
-    left.iter().position(|left| *left).unwrap_or(0)
+    first_left(&left).unwrap_or(0)
 }

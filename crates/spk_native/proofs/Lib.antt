@@ -1,0 +1,4 @@
+pub mod ValuesLemmas
+pub mod LeftLemmas
+pub mod OrderLemmas
+pub mod ChosenLemmas
