@@ -1,7 +1,7 @@
 -- Each key is a strict order, so some rank stays, and by the addresses one.
 use Rattle.std.proofs.Common.{◌≡◌, refl, sym, ap, ◌∙◌, ℕ, zero, suc, ◌+◌, ◌<◌, ◌≤◌, ◌⊎◌, inl, inr, Bool, true, false, List, [], ◌∷◌, length, get_or, filter, fold, not, ◌&&◌, ◌||◌, ◌==◌, nat_lt, arith}
 use Rattle.std.specs.List.{list_any}
-use Rattle.std.proofs.lemmas.Bool.{cases_Bool, and_parts, ltb-true, ltb-false, lt-ltb, le-ltb, eqb-true, eq-eqb}
+use Rattle.std.proofs.lemmas.Bool.{cases_Bool, and_parts, ltb-true, ltb-false, lt-ltb, le-ltb, eqb-true, eq-eqb, not-true}
 use Rattle.std.proofs.lemmas.List.Kept.{AllPairs-filter}
 use Rattle.spk_native.specs.declared.decision.Rank.{Rank}
 use Rattle.spk_native.specs.declared.decision.Key.{Key}
@@ -60,9 +60,9 @@ IsIn-list_any test (s ∷ ranks) r e h =
     elim (cases_Bool (test s)) [
       | inl holds ↦ absurd (cc (rw holds at e))
       | inr fails ↦ elim h [
-          | inl same ↦ ap test same ∙ fails
-          | inr later ↦ IsIn-list_any test ranks r (rw fails at e) later
-        ]
+        | inl same ↦ ap test same ∙ fails
+        | inr later ↦ IsIn-list_any test ranks r (rw fails at e) later
+      ]
     ]
 
 pub list_any-IsIn : (test : Rank → Bool) (ranks : List Rank) → ((r : Rank) → IsIn r ranks → test r ≡ false)
@@ -102,10 +102,6 @@ filter-IsIn p (s ∷ ranks) r h e =
 abbrev pub IsUnbeaten : Key → List Rank → Rank → Type 0
 IsUnbeaten key ranks r = (s : Rank) → IsIn s ranks → is_better key s r ≡ false
 
-not-true : (b : Bool) → not b ≡ true → b ≡ false
-not-true true e = absurd (cc e)
-not-true false e = refl
-
 pub IsIn-unbeaten : (key : Key) (ranks : List Rank) (r : Rank) → IsIn r (unbeaten ranks key)
     → IsIn r ranks × IsUnbeaten key ranks r
 IsIn-unbeaten key ranks r h =
@@ -126,9 +122,9 @@ one_or_other key r s b more there u true e = (
   λ t h. elim h [
     | inl same ↦ ap (λ x. is_better key x r) same ∙ is_better-irreflexive key r
     | inr later ↦ elim (cases_Bool (is_better key t r)) [
-        | inl holds ↦ absurd (cc (is_better-transitive key t r b holds e, u t later))
-        | inr fails ↦ fails
-      ]
+      | inl holds ↦ absurd (cc (is_better-transitive key t r b holds e, u t later))
+      | inr fails ↦ fails
+    ]
   ],
 )
 one_or_other key r s b more there u false e = (

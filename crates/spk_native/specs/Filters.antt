@@ -22,14 +22,13 @@ as_received peer route = if is_external peer then without_attribute route LOCAL_
 abbrev pub has_as : ℕ → Route → Bool
 has_as asn route = path_ok as_width (value_or_none route AS_PATH) && contains asn (path_of route)
 
--- a number is there, and is n
-abbrev pub is_number : ℕ → Option ℕ → Bool
-is_number n None = false
-is_number n (Some m) = m == n
+-- the NEXT_HOP is there and is an address
+abbrev pub is_next_hop : ℕ → Route → Bool
+is_next_hop address route = elim (number_at route NEXT_HOP) [ None ↦ false | Some hop ↦ hop == address ]
 
 -- rejected if the local AS is in the path, or if the next hop is the local address
 abbrev pub accepts_inbound : Route → Side → Bool
-accepts_inbound route local = not (has_as local.asn route || is_number local.address (number_at route NEXT_HOP))
+accepts_inbound route local = not (has_as local.asn route || is_next_hop local.address route)
 
 -- rejected if the peer is the source, or if both are internal
 abbrev pub accepts_outbound : Side → Side → Bool

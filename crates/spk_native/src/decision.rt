@@ -25,12 +25,15 @@ pub struct Rank {
     /// The AS numbers of the path, a set counting 1.
     pub hops: u32,
     pub origin: u8,
+    /// MULTI_EXIT_DISC, 0 if there is none.
     pub med: u32,
-    /// The AS that the route came from.
+    /// The neighbour AS: MEDs of one neighbour AS are compared with each other alone.
     pub neighbour: u32,
+    /// The kind of the side that the route came from: 0 for a local route, 1 external, 2 internal.
     pub kind: u8,
     /// The interior cost of the NEXT_HOP.
     pub cost: u32,
+    /// The BGP identifier of the side.
     pub id: u32,
     pub address: u32,
 }

@@ -1,6 +1,6 @@
 // What is accepted from a peer and for a peer when no program answers.
 ghost use Rattle.std.specs.Prelude.{◌≡◌, length};
-ghost use Rattle.spk_native.specs.Filters.{accepts_inbound, accepts_outbound, has_as, is_number, is_internal as internal};
+ghost use Rattle.spk_native.specs.Filters.{accepts_inbound, accepts_outbound, has_as, is_next_hop, is_internal as internal};
 
 use crate::values::{number_at, read_value};
 use bgp_attr::MAX_CANONICAL;
@@ -29,25 +29,28 @@ fn path_has<R: RouteView>(route: &R, asn: u32, room: &mut [u8]) -> bool
     path.contains(asn)
 }
 
-// Whether a number is there and is `n`.
-fn is(number: Option<u32>, n: u32) -> bool
-    ensures { result ≡ is_number n number }
+// Whether the NEXT_HOP of a route is an address.
+fn next_hop_is<R: RouteView>(route: &R, address: u32, room: &mut [u8]) -> bool
+    requires { length room.old ≡ MAX_CANONICAL }
+    ensures hop { result ≡ is_next_hop address (R.route route.now) }
+    ensures room { length room.new ≡ MAX_CANONICAL }
 {
-    match number {
-        Some(m) => m == n,
+    match number_at(route, NEXT_HOP, room) {
+        Some(hop) => hop == address,
         None => false,
     }
 }
 
 /// Whether a route that a peer sent is accepted: the local AS is not in its path (RFC 4271, section 9.1.2), and its
-/// NEXT_HOP is not the local address.
+/// NEXT_HOP is not the local address. Segments need not fill the AS_PATH: a value that is not a path has no AS.
 pub fn inbound_native<R: RouteView>(route: &R, local: &Side) -> bool
     ensures { result ≡ accepts_inbound (R.route route.now) local.now }
 {
     let mut room = [0u8; MAX_CANONICAL];
-    let next_hop = number_at(route, NEXT_HOP, &mut room);
-    let looped = path_has(route, local.asn, &mut room);
-    !(looped || is(next_hop, local.address))
+    if next_hop_is(route, local.address, &mut room) {
+        return false;
+    }
+    !path_has(route, local.asn, &mut room)
 }
 
 fn is_internal(side: &Side) -> bool

@@ -13,11 +13,11 @@ loop-i-preserved c =
     let test = λ (other : Rank). is_better c.args.key other c.args.rank.now in
     let i = c.loop-i.i in
     let here : (get_or left i false && test (get_or ranks i no_rank)) ≡ false =
-        elim c.else-left-i.branch [
-          | else-left-i-via-then-left-i+else-beats w ↦
-              rw w.if-left-i.true (sym w.beats.ensures ∙ w.if-beats.false)
-          | else-left-i-via-else-left-i w ↦ rw w.if-left-i.false refl
-        ] in
+    elim c.else-left-i.branch [
+      | else-left-i-via-then-left-i+else-beats w ↦
+          rw w.if-left-i.true (sym w.beats.ensures ∙ w.if-beats.false)
+      | else-left-i-via-else-left-i w ↦ rw w.if-left-i.false refl
+    ] in
     ap (λ n. list_any test (left_of (drop n ranks) (drop n left))) (add-one i)
     ∙ sym (list_any-left_of test ranks left i no_rank (omega arith) (omega (arith, c.requires))
     ∙ ap (λ b. b || list_any test (left_of (drop (suc i) ranks) (drop (suc i) left))) here)
