@@ -1,5 +1,5 @@
 -- The one rank that survives, and its index.
-use Rattle.std.proofs.Common.{◌≡◌, refl, sym, ap, ◌∙◌, ℕ, ◌<◌, ◌≤◌, inl, List, Option, unwrap_or, position, subst, [], ◌∷◌, Bool, length, get_or, ◌==◌, arith}
+use Rattle.std.proofs.Common.{◌≡◌, refl, sym, ap, ◌∙◌, ℕ, ◌<◌, ◌≤◌, inl, List, unwrap_or, position, subst, [], ◌∷◌, Bool, length, get_or, ◌==◌, arith}
 use Rattle.std.proofs.lemmas.Bool.{lt-ltb}
 use Rattle.std.specs.List.{list_any, position_or_len}
 use Rattle.spk_native.specs.declared.decision.Rank.{Rank}
@@ -27,14 +27,16 @@ chosen_first ranks left h apart e =
     let at = IsMarked-alone ranks left best.0 only in (
       record {
         index = first_mark-address ranks left best.0 apart only
-            ∙ ap (λ (left : List Rank). position_or_len (λ r. list_any (λ s. s.address == r.address) left) ranks) (sym best.2);
+            ∙ ap (λ (left : List Rank). position_or_len (λ r. list_any (λ s. s.address == r.address) left) ranks)
+            (sym best.2);
         within = at.within;
         alone = λ d. best.2 ∙ ap (λ r. r ∷ []) (sym (at.rank d));
       },
       at.marked,
     )
 
-position-mark : (left : List Bool) → first_mark left < length left → unwrap_or (position (λ b. b) left) 0 ≡ first_mark left
+position-mark : (left : List Bool) → first_mark left < length left
+    → unwrap_or (position (λ b. b) left) 0 ≡ first_mark left
 position-mark left h = rw (lt-ltb (first_mark left) (length left) h) refl
 
 -- if the survivors are left, the first mark is at the one

@@ -1,5 +1,5 @@
 -- The decision of a set and the decision of two along an order: both give the one rank that is at least as good as all.
-use Rattle.std.proofs.Common.{◌≡◌, refl, sym, ap, ◌∙◌, subst, ℕ, zero, suc, ◌+◌, ◌<◌, ◌≤◌, ◌⊎◌, inl, inr, Bool, true, false, cond, List, [], ◌∷◌, length, get_or, fold, All, AllPairs, IsPermutation, sum_by, ◌&&◌, ◌==◌, nat_lt, arith}
+use Rattle.std.proofs.Common.{◌≡◌, refl, sym, ap, ◌∙◌, subst, ℕ, zero, suc, ◌+◌, ◌<◌, ◌≤◌, ◌⊎◌, inl, inr, Bool, true, false, cond, List, [], ◌∷◌, length, get_or, fold, AllPairs, IsPermutation, sum_by, ◌==◌, nat_lt, arith}
 use Rattle.std.proofs.lemmas.Bool.{cases_Bool, and_parts, ltb-true, ltb-false, lt-ltb, eqb-true, eq-eqb, true≢false, false_from_ne_true}
 use Rattle.std.proofs.lemmas.List.Sums.{sum_by-cons}
 use Rattle.std.proofs.lemmas.List.Sorted.{All-permutation, IsPermutation-sym, sum_by-IsPermutation}
@@ -128,9 +128,15 @@ module _ (R : Rank → Rank → Type 0) (turn : (a b : Rank) → R a b → R b a
         ]
         | inr before ↦ elim y [
           | inl b_is ↦ inr (turn b a (subst (λ (v : Rank). R v a) (sym b_is) (first_pair s a ranks all before)))
-          | inr later ↦ pair_of ranks a b (λ i j d lt within. all (suc i) (suc j) d (omega arith) (omega arith)) before later
+          | inr later ↦
+              let rest : AllPairs R ranks = λ i j d lt within. all (suc i) (suc j) d (omega arith) (omega arith) in
+              pair_of ranks a b rest before later
         ]
       ]
+
+first_apart : (r s : Rank) (ranks : List Rank) → AreApart (r ∷ ranks) → IsIn s ranks → r.address ≡ s.address → ⊥
+first_apart r s ranks apart later =
+    first_pair (λ (a b : Rank). a.address ≡ b.address → ⊥) (λ a b h same. h (sym same)) r s ranks apart later
 
 same_rank : (ranks : List Rank) (a b : Rank) → AreApart ranks → IsIn a ranks → IsIn b ranks → a.address ≡ b.address
     → a ≡ b
@@ -204,11 +210,11 @@ IsOnce-apart (r ∷ ranks) apart address =
     elim (cases_Bool (r.address == address)) [
       | inl here ↦
           let none = times-none address ranks
-          (λ s later e. first_pair (λ (a b : Rank). a.address ≡ b.address → ⊥) (λ a b h same. h (sym same)) r s ranks apart later
-          (eqb-true r.address address here ∙ sym e)) in
+          (λ s later e. first_apart r s ranks apart later (eqb-true r.address address here ∙ sym e)) in
           omega (arith, times-cons address r ranks, ap {B = ℕ} (λ (b : Bool). cond b 1 0) here, none)
       | inr there ↦
-          let rest = IsOnce-apart ranks (λ i j d lt within. apart (suc i) (suc j) d (omega arith) (omega arith)) address in
+          let after : AreApart ranks = λ i j d lt within. apart (suc i) (suc j) d (omega arith) (omega arith) in
+          let rest = IsOnce-apart ranks after address in
           omega (arith, times-cons address r ranks, ap {B = ℕ} (λ (b : Bool). cond b 1 0) there, rest)
     ]
 
@@ -302,7 +308,8 @@ IsBest-pairwise ranks (z ∷ order) c weak x all once =
       | inl e ↦ subst (λ (v : Rank). IsIn v ranks) (sym e) x
       | inr e ↦ subst (λ (v : Rank). IsIn v ranks) (sym e) y
     ] in
-    let rest = IsBest-pairwise ranks order w weak w_in (λ r h. all r (inr h)) (IsOnce-better c z w order once two.which) in
+    let rest = IsBest-pairwise ranks order w weak w_in (λ r h. all r (inr h))
+    (IsOnce-better c z w order once two.which) in
     let v = pairwise w order in
     let v_in : IsIn v ranks = elim rest.there [
       | inl e ↦ subst (λ (u : Rank). IsIn u ranks) (sym e) w_in
@@ -315,9 +322,11 @@ IsBest-pairwise ranks (z ∷ order) c weak x all once =
         | inr later ↦ inr (inr later)
       ];
       best = λ r h. elim h [
-        | inl same ↦ subst (λ (u : Rank). IsAsGood keys v u) (sym same) (IsAsGood-transitive keys ranks v w c weak v_in w_in x over two.first)
+        | inl same ↦ subst (λ (u : Rank). IsAsGood keys v u) (sym same)
+            (IsAsGood-transitive keys ranks v w c weak v_in w_in x over two.first)
         | inr later ↦ elim later [
-          | inl same ↦ subst (λ (u : Rank). IsAsGood keys v u) (sym same) (IsAsGood-transitive keys ranks v w z weak v_in w_in y over two.second)
+          | inl same ↦ subst (λ (u : Rank). IsAsGood keys v u) (sym same)
+              (IsAsGood-transitive keys ranks v w z weak v_in w_in y over two.second)
           | inr more ↦ rest.best r (inr more)
         ]
       ];
@@ -334,14 +343,20 @@ pub fold_holds : fold_law
 unfolding survivors
 fold_holds ranks order first apart meds perm =
     let weak = IsWeak-one_med ranks meds in
-    let into : (r : Rank) → IsIn r (first ∷ order) → IsIn r ranks = λ r h. IsIn-permutation ranks (first ∷ order) r perm h in
+    let into : (r : Rank) → IsIn r (first ∷ order) → IsIn r ranks =
+    λ r h. IsIn-permutation ranks (first ∷ order) r perm h in
     let once : IsOnce (first ∷ order) = λ address.
-    omega (arith, IsOnce-apart ranks apart address, sum_by-IsPermutation (λ (r : Rank). cond (r.address == address) 1 0) ranks (first ∷ order) perm) in
+    omega (
+      arith,
+      IsOnce-apart ranks apart address,
+      sum_by-IsPermutation (λ (r : Rank). cond (r.address == address) 1 0) ranks (first ∷ order) perm,
+    ) in
     let along = IsBest-pairwise ranks order first weak (into first (inl refl)) (λ r h. into r (inr h)) once in
     let w = pairwise first order in
     let one = one_survives ranks first (into first (inl refl)) apart in
     let left : IsIn one.0 (survivors ranks) = subst (λ (l : List Rank). IsIn one.0 l) (sym one.2) (inl refl) in
     let w_in = into w along.there in
     let set_over = IsAsGood-left keys ranks one.0 w weak left w_in in
-    let pair_over = along.best one.0 (IsIn-permutation (first ∷ order) ranks one.0 (IsPermutation-sym ranks (first ∷ order) perm) one.1) in
+    let back = IsPermutation-sym ranks (first ∷ order) perm in
+    let pair_over = along.best one.0 (IsIn-permutation (first ∷ order) ranks one.0 back one.1) in
     one.2 ∙ ap (λ r. r ∷ []) (same_rank ranks one.0 w apart one.1 w_in (address_of_tied one.0 w set_over pair_over))

@@ -1,5 +1,5 @@
 -- Ranks that are marked as left.
-use Rattle.std.proofs.Common.{◌≡◌, refl, sym, ap, ◌∙◌, ℕ, zero, suc, ◌+◌, ◌<◌, ◌≤◌, Bool, true, false, List, [], ◌∷◌, length, get_or, drop, replicate, filter, not, ◌&&◌, ◌||◌, ◌==◌, if◌then◌else◌, one-add, arith}
+use Rattle.std.proofs.Common.{◌≡◌, refl, sym, ap, ◌∙◌, ℕ, zero, suc, ◌+◌, ◌<◌, ◌≤◌, Bool, true, false, List, [], ◌∷◌, length, get_or, drop, replicate, filter, ◌&&◌, ◌||◌, ◌==◌, if◌then◌else◌, one-add, arith}
 use Rattle.std.specs.List.{list_any, position_or_len}
 use Rattle.spk_native.specs.declared.decision.Rank.{Rank}
 use Rattle.spk_native.specs.Decision.{left_of}
@@ -53,7 +53,8 @@ any-head test r false ranks = refl
 -- a test on those that are left, from one index on
 pub list_any-left_of : (test : Rank → Bool) (ranks : List Rank) (left : List Bool) (i : ℕ) (d : Rank)
     → i < length ranks → i < length left → list_any test (left_of (drop i ranks) (drop i left))
-    ≡ ((get_or left i false && test (get_or ranks i d)) || list_any test (left_of (drop (suc i) ranks) (drop (suc i) left)))
+    ≡ ((get_or left i false && test (get_or ranks i d))
+    || list_any test (left_of (drop (suc i) ranks) (drop (suc i) left)))
 list_any-left_of test [] left i d h k = absurd (omega arith)
 list_any-left_of test (r ∷ ranks) [] i d h k = absurd (omega arith)
 list_any-left_of test (r ∷ ranks) (b ∷ left) zero d h k = any-head test r b (left_of ranks left)
@@ -91,7 +92,8 @@ later_apart r ranks h i j d lt within = h (suc i) (suc j) d (omega arith) (omega
 
 -- and its address is at no other index
 pub first_mark-address : (ranks : List Rank) (left : List Bool) (r : Rank) → AreApart ranks
-    → left_of ranks left ≡ r ∷ [] → first_mark left ≡ position_or_len (λ s. list_any (λ t. t.address == s.address) (r ∷ [])) ranks
+    → left_of ranks left ≡ r ∷ []
+    → first_mark left ≡ position_or_len (λ s. list_any (λ t. t.address == s.address) (r ∷ [])) ranks
 first_mark-address [] left r apart e = absurd (cc e)
 first_mark-address (s ∷ ranks) [] r apart e = absurd (cc e)
 first_mark-address (s ∷ ranks) (true ∷ left) r apart e =
@@ -99,6 +101,8 @@ first_mark-address (s ∷ ranks) (true ∷ left) r apart e =
     rw (eq-eqb r.address s.address same) refl
 first_mark-address (s ∷ ranks) (false ∷ left) r apart e =
     let at = IsMarked-alone ranks left r e in
-    let other : r.address ≡ s.address → ⊥ = λ same. apart zero (suc (first_mark left)) r (omega arith) (omega (arith, at.within))
+    let other : r.address ≡ s.address → ⊥ =
+    λ same. apart zero (suc (first_mark left)) r (omega arith) (omega (arith, at.within))
     (sym same ∙ ap (λ (x : Rank). x.address) (sym (at.rank r))) in
-    rw (ne_eqb r.address s.address other) (ap (λ n. 1 + n) (first_mark-address ranks left r (later_apart s ranks apart) e))
+    let rest = first_mark-address ranks left r (later_apart s ranks apart) e in
+    rw (ne_eqb r.address s.address other) (ap (λ n. 1 + n) rest)

@@ -1,5 +1,5 @@
 -- Each key is a strict order, so some rank stays, and by the addresses one.
-use Rattle.std.proofs.Common.{◌≡◌, refl, sym, ap, ◌∙◌, ℕ, zero, suc, ◌+◌, ◌<◌, ◌≤◌, ◌⊎◌, inl, inr, Bool, true, false, List, [], ◌∷◌, length, get_or, filter, fold, not, ◌&&◌, ◌||◌, ◌==◌, nat_lt, arith}
+use Rattle.std.proofs.Common.{◌≡◌, refl, sym, ap, ◌∙◌, ℕ, ◌⊎◌, inl, inr, Bool, true, false, List, [], ◌∷◌, filter, fold, not, ◌&&◌, ◌==◌, nat_lt, arith}
 use Rattle.std.specs.List.{list_any}
 use Rattle.std.proofs.lemmas.Bool.{cases_Bool, and_parts, ltb-true, ltb-false, lt-ltb, le-ltb, eqb-true, eq-eqb, not-true}
 use Rattle.std.proofs.lemmas.List.Kept.{AllPairs-filter}
@@ -34,7 +34,8 @@ med-transitive : (a b c : Rank) → is_better Med a b ≡ true → is_better Med
 med-transitive a b c x y =
     let p = and_parts (a.neighbour == b.neighbour) (nat_lt a.med b.med) x in
     let q = and_parts (b.neighbour == c.neighbour) (nat_lt b.med c.med) y in
-    let same : a.neighbour ≡ c.neighbour = eqb-true a.neighbour b.neighbour p.0 ∙ eqb-true b.neighbour c.neighbour q.0 in
+    let same : a.neighbour ≡ c.neighbour =
+    eqb-true a.neighbour b.neighbour p.0 ∙ eqb-true b.neighbour c.neighbour q.0 in
     rw (eq-eqb a.neighbour c.neighbour same) (lt-transitive a.med b.med c.med p.1 q.1)
 
 pub is_better-transitive : (key : Key) (a b c : Rank) → is_better key a b ≡ true → is_better key b c ≡ true
@@ -106,12 +107,14 @@ pub IsIn-unbeaten : (key : Key) (ranks : List Rank) (r : Rank) → IsIn r (unbea
     → IsIn r ranks × IsUnbeaten key ranks r
 IsIn-unbeaten key ranks r h =
     let p = IsIn-filter (λ r. not (is_beaten key ranks r)) ranks r h in
-    (p.0, λ s there. IsIn-list_any (λ other. is_better key other r) ranks s (not-true (is_beaten key ranks r) p.1) there)
+    let none = not-true (is_beaten key ranks r) p.1 in
+    (p.0, λ s there. IsIn-list_any (λ other. is_better key other r) ranks s none there)
 
 pub unbeaten-IsIn : (key : Key) (ranks : List Rank) (r : Rank) → IsIn r ranks → IsUnbeaten key ranks r
     → IsIn r (unbeaten ranks key)
 unbeaten-IsIn key ranks r h u =
-    filter-IsIn (λ r. not (is_beaten key ranks r)) ranks r h (ap not (list_any-IsIn (λ other. is_better key other r) ranks u))
+    filter-IsIn (λ r. not (is_beaten key ranks r)) ranks r h
+    (ap not (list_any-IsIn (λ other. is_better key other r) ranks u))
 
 one_or_other : (key : Key) (r s b : Rank) (more : List Rank) → IsIn b (s ∷ more) → IsUnbeaten key (s ∷ more) b
     → (c : Bool) → is_better key r b ≡ c
@@ -200,4 +203,5 @@ unfolding survivors
 one_survives ranks r h apart =
     let best = some_survives keys ranks r h in
     let before = fold unbeaten ranks first_keys in
-    (best.0, IsIn-fold keys ranks best.0 best.1, one_of (unbeaten before Address) best.0 best.1 (AreApart-fold keys ranks apart) (same_address before))
+    let alone = one_of (unbeaten before Address) best.0 best.1 (AreApart-fold keys ranks apart) (same_address before) in
+    (best.0, IsIn-fold keys ranks best.0 best.1, alone)

@@ -6,7 +6,6 @@ use Rattle.xb_words.specs.Cut.{cut}
 use Rattle.bgp_attr.specs.declared.TheConstants.{MAX_CANONICAL}
 use Rattle.bgp_attr.specs.declared.codes.TheConstants.{AS_PATH}
 use Rattle.bgp_attr.specs.declared.flags.TheConstants.{WELL_KNOWN}
-use Rattle.bgp_attr.specs.declared.rule.AttrFault.{AttrFault}
 use Rattle.bgp_attr.specs.declared.rule.AttrFault.TheVariants.{Path}
 use Rattle.bgp_attr.specs.Routes.{Attribute, Route, attribute_at, IsRoute, kept_flags}
 use Rattle.bgp_attr.specs.Rules.{attr_fault, fault_if, row_fault}

@@ -1,6 +1,6 @@
 -- What the native filters accept (RFC 4271, section 9.1.2 for loops and 9.2.1 for internal peers; the rest is this
 -- project's own).
-use Rattle.std.specs.Prelude.{ℕ, Bool, false, Option, Some, None, ◌==◌, ◌&&◌, ◌||◌, not, if◌then◌else◌}
+use Rattle.std.specs.Prelude.{ℕ, Bool, false, Some, None, ◌==◌, ◌&&◌, ◌||◌, not, if◌then◌else◌}
 use Rattle.xb_domain.specs.declared.side.Side.{Side}
 use Rattle.bgp_attr.specs.declared.codes.TheConstants.{AS_PATH, NEXT_HOP, LOCAL_PREF}
 use Rattle.bgp_attr.specs.Routes.{Route, as_width, without_attribute}

@@ -3,7 +3,6 @@ use Rattle.std.specs.Prelude.{◌≡◌, ℕ, List, [], Option, Some, None}
 use Rattle.std.specs.Option.{option_map, unwrap_or}
 use Rattle.xb_words.specs.Octets.{four_at}
 use Rattle.bgp_attr.specs.declared.codes.TheConstants.{AS_PATH, NEXT_HOP}
-use Rattle.bgp_attr.specs.declared.rule.AttrFault.{AttrFault}
 use Rattle.bgp_attr.specs.Routes.{Attribute, Route, attribute_at, as_width}
 use Rattle.bgp_attr.specs.Rules.{attr_fault}
 use Rattle.bgp_attr.specs.Paths.{Segment, path}

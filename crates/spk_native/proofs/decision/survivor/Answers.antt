@@ -1,4 +1,4 @@
-use Rattle.std.proofs.Common.{◌≡◌, ℕ, unwrap_or, subst, sym, ap, ◌∙◌, fold, take, [], ◌∷◌, arith}
+use Rattle.std.proofs.Common.{◌≡◌, ℕ, unwrap_or, subst, sym, ap, ◌∙◌, fold, take, arith}
 use Rattle.spk_native.specs.Decision.{unbeaten, keys, survivors}
 use Rattle.spk_native.proofs.LeftLemmas.{left_of-all}
 use Rattle.spk_native.proofs.ChosenLemmas.{IsChosen, IsChosen-marked}
