@@ -1,0 +1,4 @@
+pub mod Values
+pub mod Decision
+pub mod Filters
+pub mod Laws
