@@ -7,6 +7,7 @@
 
 ghost use Rattle.std.specs.Prelude.{◌≡◌, ◌≤◌, length};
 
+use memchr::memchr;
 use replay_log::{Got, LINE_LIMIT, Line, LogReader, OCTETS_LIMIT, parse_into};
 use std::alloc::{AllocError, Global};
 use std::process::ExitCode;
@@ -14,7 +15,7 @@ use std::rt::{Env, Files};
 use std::{env, fs, io};
 use xb_domain::Event;
 use xb_io::FileShelf;
-use xb_values::{Buf, split_once};
+use xb_values::Buf;
 
 // How often the lines in memory are parsed: 64 MiB if the log has one.
 const TIMES: u32 = 64;
@@ -82,11 +83,11 @@ fn add_lines(tally: &mut Tally, octets: &mut Buf, text: &[u8]) -> bool
     ensures { octets.new.capacity ≡ octets.old.capacity }
 {
     let mut rest = text;
-    'lines: while let Some((line, others)) = split_once(rest, b'\n') {
-        if line.len() > LINE_LIMIT || !add_line(tally, octets, line) {
+    'lines: while let Some(at) = memchr(b'\n', rest) {
+        if at > LINE_LIMIT || !add_line(tally, octets, &rest[..at]) {
             return false;
         }
-        rest = others;
+        rest = &rest[at + 1..];
     }
     true
 }

@@ -1,10 +1,11 @@
 -- Octets that are read ahead, as parts of a line.
-use Rattle.std.proofs.Common.{◌≡◌, refl, sym, ap, ◌∙◌, subst, inl, inr, ℕ, zero, suc, ◌+◌, ◌-◌, ◌<◌, ◌≤◌, Bool, true, false, ◌==◌, List, [], ◌∷◌, ◌++◌, length, take, drop, get_or, Option, Some, None, arith, length-append}
+use Rattle.std.proofs.Common.{◌≡◌, refl, sym, ap, ◌∙◌, inl, inr, ℕ, zero, suc, ◌+◌, ◌<◌, ◌≤◌, Bool, true, false, ◌==◌, List, [], ◌∷◌, ◌++◌, length, take, drop, get_or, Option, Some, None, arith, length-append}
 use Rattle.std.specs.List.{position, position_or_len}
-use Rattle.std.proofs.lemmas.Bool.{cases_Bool, cases_lt, eqb-true, eqb-false, ne_eqb, lt-ltb}
+use Rattle.std.proofs.lemmas.Bool.{cases_Bool, cases_lt, eqb-true, eqb-false, ne_eqb, lt-ltb, le-ltb}
 use Rattle.std.proofs.lemmas.List.{append_assoc, append-nil, length-take}
 use Rattle.std.proofs.lemmas.List.Quantifiers.{position-Some}
-use Rattle.std.proofs.lemmas.List.Sums.{fails_before_first}
+use Rattle.std.proofs.lemmas.List.Sums.{fails_before_first, position_or_len_is}
+use Rattle.memchr.specs.Find.{IsFirstByte}
 use Rattle.xb_values.specs.Buffers.{Buffer, Appends}
 use Rattle.replay_log.specs.declared.limits.TheConstants.{LINE_LIMIT}
 use Rattle.replay_log.specs.declared.part.Part.TheVariants.{TooLongPart, LastPart, WholePart}
@@ -92,6 +93,21 @@ scan-ends n at longer front s within is none fits =
     scan-fits n at longer front s (omega arith) none fits
     ∙ ap (λ (t : List ℕ). scan (at + n) longer (front ++ take n s) t) (drop-at_end n s within is)
     ∙ ap (next_line (front ++ take n s)) after
+
+-- what a search finds is the first index
+fails-from_not : (b : Bool) → ¬ (b ≡ true) → b ≡ false
+fails-from_not true not = absurd (not refl)
+fails-from_not false not = refl
+
+pub position-first : (test : ℕ → Bool) (s : List ℕ) (r : Option ℕ) → IsFirstByte test s r → r ≡ position test s
+position-first test s None none =
+    let all : position_or_len test s ≡ length s =
+    position_or_len_is test s (length s) 0 (omega arith) (λ k less. fails-from_not (test (get_or s k 0)) (none k (omega arith) less)) (λ wrong. absurd (omega arith)) in
+    sym (rw (le-ltb (position_or_len test s) (length s) (omega (arith, all))) refl)
+position-first test s (Some i) found =
+    let here : position_or_len test s ≡ i =
+    position_or_len_is test s i 0 (omega (arith, found.0.high)) (λ k less. fails-from_not (test (get_or s k 0)) (found.0.before k (omega arith) less)) (λ less. found.1) in
+    sym (rw (lt-ltb (position_or_len test s) (length s) (omega (arith, here, found.0.high))) (ap Some here))
 
 -- what the search for a line end says
 none_before-None : (s : List ℕ) → position is_end s ≡ None → NoneBefore (length s) s

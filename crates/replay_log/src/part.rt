@@ -3,6 +3,7 @@ ghost use Rattle.std.specs.Prelude.{◌≡◌, ◌≤◌, length, position, ◌=
 ghost use Rattle.replay_log.specs.Readings.{TakesPart};
 
 use crate::limits::LINE_LIMIT;
+use memchr::memchr;
 use xb_values::Buf;
 
 /// What the octets that were read ahead are to a line.
@@ -20,7 +21,7 @@ pub(crate) enum Part {
 fn end_of(octets: &[u8]) -> Option<usize>
     ensures { result ≡ position (λ c. c == 10) octets.now }
 {
-    octets.iter().position(|c| *c == b'\n')
+    memchr(b'\n', octets)
 }
 
 /// Appends the octets before the first line end to a line, or all of them.
