@@ -49,8 +49,9 @@ fn access_address(insn: Insn, base: u64) -> u64
     base.wrapping_add(offset_word(insn))
 }
 
-// The slot at a distance from the slot after a jump.
-#[inline(always)]
+// The slot at a distance from the slot after a jump. It is a call, so that a conditional jump stays a branch, which the
+// processor guesses: inlined, it would be a conditional move, which waits for the comparison.
+#[inline(never)]
 fn jump_target(slot: u64, distance: u64) -> u64
     requires { slot < MAX_SLOTS }
     ensures { result ≡ jump_target slot distance }
