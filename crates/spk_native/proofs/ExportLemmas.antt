@@ -1,8 +1,8 @@
 -- The section that a peer is sent, part by part of the route.
-use Rattle.std.proofs.Common.{◌≡◌, inl, inr, refl, sym, ap, ◌∙◌, ℕ, ◌+◌, ◌≤◌, true, false, List, [], ◌∷◌, ◌++◌, length, Option, Some, None, arith, append_assoc}
+use Rattle.std.proofs.Common.{◌≡◌, inl, inr, refl, sym, ap, ◌∙◌, ℕ, ◌+◌, ◌≤◌, true, false, List, [], ◌∷◌, ◌++◌, length, Option, Some, arith, append_assoc}
 use Rattle.std.proofs.lemmas.Bool.{cases_Bool}
 use Rattle.std.proofs.lemmas.List.{length-append, append-nil}
-use Rattle.bgp_attr.specs.Routes.{Attribute, Route, attribute_at, canon, canonical}
+use Rattle.bgp_attr.specs.Routes.{Route, attribute_at, canon, canonical}
 use Rattle.xbgp_view.specs.Sections.{entry_of, entry_octets, below_code}
 use Rattle.xbgp_view.specs.Views.{flags_and_length}
 use Rattle.xbgp_view.proofs.ViewsLemmas.{IsNext, flags_and_length-some, value_in}

@@ -1,1 +1,3 @@
 pub mod Export
+pub mod Receipt
+pub mod Rebuilds

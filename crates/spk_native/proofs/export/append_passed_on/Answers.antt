@@ -1,7 +1,5 @@
-use Rattle.std.proofs.Common.{◌≡◌, ◌+◌, ◌++◌, take, length, ap, sym, ◌∙◌, arith}
+use Rattle.std.proofs.Common.{◌++◌, length, ap, sym, ◌∙◌, arith}
 use Rattle.std.proofs.lemmas.List.{length-take-le, append-nil}
-use Rattle.bgp_attr.specs.Routes.{canonical}
-use Rattle.xbgp_view.specs.Sections.{entry_octets}
 use Rattle.xbgp_view.proofs.ViewsLemmas.{IsRead, IsRead-copied}
 use Rattle.spk_native.proofs.ExportLemmas.{native_section-left_out, native_section-sent}
 use Rattle.spk_native.proofs.export.append_passed_on.Goals as goal

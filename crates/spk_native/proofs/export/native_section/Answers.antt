@@ -1,9 +1,9 @@
-use Rattle.std.proofs.Common.{◌≡◌, refl, ◌+◌, ◌++◌, ◌∙◌, ap, sym, length, arith}
+use Rattle.std.proofs.Common.{refl, ◌+◌, ◌++◌, ◌∙◌, ap, sym, length, arith}
 use Rattle.std.proofs.lemmas.List.{length-append}
 use Rattle.xb_values.specs.Buffers.{Buffer}
 use Rattle.bgp_attr.specs.Routes.{attribute_at}
 use Rattle.xbgp_view.specs.Sections.{entry_of, below_code}
-use Rattle.xbgp_view.proofs.ViewsLemmas.{IsNext, below_code-all, IsNext-code_from, length-canon-below_code, below_code-zero}
+use Rattle.xbgp_view.proofs.ViewsLemmas.{below_code-all, IsNext-code_from, length-canon-below_code, below_code-zero}
 use Rattle.spk_native.specs.Export.{native_section}
 use Rattle.spk_native.proofs.ExportLemmas.{native_section-next, length-native_section}
 use Rattle.spk_native.proofs.export.native_section.Goals as goal
