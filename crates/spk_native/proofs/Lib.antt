@@ -3,3 +3,9 @@ pub mod RebuildsLemmas
 pub mod NarrowLemmas
 pub mod ReceiptLemmas
 pub mod ReceiptRows
+pub mod ValuesLemmas
+pub mod LeftLemmas
+pub mod OrderLemmas
+pub mod ChosenLemmas
+pub mod FoldLemmas
+pub mod DecisionRows

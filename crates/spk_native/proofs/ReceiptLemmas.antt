@@ -16,7 +16,8 @@ use Rattle.bgp_path.specs.Widths.{narrow_path}
 use Rattle.xbgp_view.proofs.LowerLemmas.{eq-nat_cmp, lt-nat_cmp, gt-nat_cmp, nat_cmp-equal, nat_cmp-less, below_none, past_all}
 use Rattle.xbgp_view.proofs.ViewsLemmas.{IsEntry-attribute_at}
 use Rattle.spk_native.specs.declared.four.Four.{Four}
-use Rattle.spk_native.specs.Receipt.{narrow, narrow_aggregator, changed, with_value_by, kept_beside, is_wide_path, is_wide_aggregator, IsFaultless, inflow, widened, widened_by, without_narrow, aggregated_since, good, is_good_aggregator, good_aggregator, path_with, aggregator_with}
+use Rattle.spk_native.specs.Receipt.{narrow, narrow_aggregator, changed, with_value_by, kept_beside, is_wide_path, is_wide_aggregator, inflow, widened, widened_by, without_narrow, aggregated_since, good, is_good_aggregator, good_aggregator, path_with, aggregator_with}
+use Rattle.spk_native.specs.Values.{IsFaultless}
 use Rattle.spk_native.specs.Rebuilds.{size_if, set_if, bare, four_of, rebuilt, valued, or_other, beside, narrow_four, wide_four, used_path, used_aggregator}
 use Rattle.spk_native.proofs.RebuildsLemmas.{kept, less, over, at-set_if, at-bare, rising-set_if, rising-bare, is_eq-true, at-without, rising-without, length-without}
 

@@ -1,6 +1,6 @@
 -- Routes on their way from a session with AS numbers of two octets, and to one (RFC 6793, sections 4.2.2 and 4.2.3). The
 -- routes that the speaker keeps have four octets for an AS number.
-use Rattle.std.specs.Prelude.{◌≡◌, ℕ, Bool, true, false, List, ◌++◌, length, drop, Option, Some, None}
+use Rattle.std.specs.Prelude.{ℕ, Bool, true, false, List, ◌++◌, length, drop, Option, Some, None}
 use Rattle.std.specs.Prelude.{◌==◌, ◌&&◌, ◌||◌, not, if◌then◌else◌}
 use Rattle.std.specs.List.{list_any}
 use Rattle.xb_words.specs.Octets.{two_at, four_at, two_octets, four_octets}
@@ -8,15 +8,9 @@ use Rattle.bgp_attr.specs.declared.codes.TheConstants.{AS_PATH, AGGREGATOR, AS4_
 use Rattle.bgp_attr.specs.declared.flags.TheConstants.{OPTIONAL_TRANSITIVE, PARTIAL_TRANSITIVE}
 use Rattle.bgp_attr.specs.declared.segments.TheConstants.{AS_TRANS}
 use Rattle.bgp_attr.specs.Routes.{Route, Attribute, attribute_at, with_attribute, without_attribute, canon, route_of}
-use Rattle.bgp_attr.specs.Rules.{attr_fault}
 use Rattle.bgp_attr.specs.Paths.{path, path_ok}
 use Rattle.spk_native.specs.declared.wide.TheConstants.{WIDE_AGGREGATOR}
 use Rattle.bgp_path.specs.Widths.{wide_path, narrow_path, is_narrow, narrow_number, merge}
-
--- no attribute of the route has a fault, with AS numbers of w octets
-abbrev pub IsFaultless : ℕ → Route → Type 0
-IsFaultless w route =
-    (code : ℕ) (a : Attribute) → attribute_at route code ≡ Some a → attr_fault w code a.flags a.value ≡ None
 
 -- an AGGREGATOR with its AS number in the other width
 abbrev pub wide_aggregator : List ℕ → List ℕ

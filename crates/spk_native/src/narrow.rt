@@ -5,7 +5,8 @@ ghost use Rattle.bgp_attr.specs.Paths.{path_ok as is_path, numbers_of};
 ghost use Rattle.bgp_attr.specs.Routes.{Attribute, IsRoute};
 ghost use Rattle.bgp_path.specs.Widths.{is_narrow as fits_two, narrow_number as number_in_two, narrow_path};
 ghost use Rattle.spk_native.specs.Receipt.{is_wide_path as has_wide, is_wide_aggregator as has_wide_as};
-ghost use Rattle.spk_native.specs.Receipt.{narrow_aggregator as in_two, IsFaultless};
+ghost use Rattle.spk_native.specs.Receipt.{narrow_aggregator as in_two};
+ghost use Rattle.spk_native.specs.Values.{HasNoFault};
 ghost use Rattle.spk_native.specs.Rebuilds.{beside, or_other, valued, narrow_four as four_in_two};
 
 use crate::four::{Four, Held, four_in};
@@ -155,7 +156,7 @@ fn narrow_aggregator_if(aggregator: &Option<Held>) -> Option<Held>
 
 /// What a route has for the four codes in a session with AS numbers of two octets.
 pub(crate) fn narrow_four(route: &Overlay) -> Four
-    requires { IsFaultless 4 route.now.route }
+    requires { HasNoFault route.now.route }
     ensures shape { IsRoute route.now.route }
     ensures value { result ≡ four_in_two route.now.route }
 {

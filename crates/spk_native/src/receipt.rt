@@ -1,8 +1,9 @@
 // Routes in the form of a session with AS numbers of two octets.
 ghost use Rattle.std.specs.Prelude.{◌≡◌, length, nat_le, MatchBool};
 ghost use Rattle.bgp_attr.specs.Paths.{width_of};
-ghost use Rattle.bgp_attr.specs.Routes.{as_width, canon};
-ghost use Rattle.spk_native.specs.Receipt.{inflow, narrow, without_narrow as without_both, IsFaultless};
+ghost use Rattle.bgp_attr.specs.Routes.{canon};
+ghost use Rattle.spk_native.specs.Receipt.{inflow, narrow, without_narrow as without_both};
+ghost use Rattle.spk_native.specs.Values.{HasNoFault, IsFaultless};
 
 use crate::four::{entry_len, rebuild};
 use crate::narrow::narrow_four;
@@ -18,7 +19,7 @@ pub const MAX_SENT: usize = 4068;
 /// Makes a route what it becomes for a session with AS numbers of two octets and returns true, or false, with nothing
 /// changed, if the canonical section would then have more than [`MAX_SENT`] octets (RFC 6793, section 4.2.2).
 pub fn narrow_route(route: &mut Overlay) -> bool
-    requires { IsFaultless as_width route.old.route }
+    requires { HasNoFault route.old.route }
     ensures fits { result ≡ nat_le (length (canon (narrow route.old.route))) MAX_SENT }
     ensures after { MatchBool result
         (route.new ≡ record route.old { route = narrow route.old.route }) (route.new ≡ route.old) }

@@ -6,7 +6,7 @@ ghost use Rattle.bgp_attr.specs.Paths.{path_ok as is_path};
 ghost use Rattle.bgp_attr.specs.Routes.{Attribute, canon, IsRoute};
 ghost use Rattle.spk_native.specs.Receipt.{is_optional_transitive as has_flags, is_good_path, is_good_aggregator};
 ghost use Rattle.spk_native.specs.Receipt.{aggregated_since as is_since, aggregator_with, good, inflow, path_with};
-ghost use Rattle.spk_native.specs.Receipt.{IsFaultless};
+ghost use Rattle.spk_native.specs.Values.{IsFaultless};
 ghost use Rattle.spk_native.specs.Rebuilds.{size_if, valued, wide_four as four_in_four};
 
 use crate::four::{Four, Held, four_in};

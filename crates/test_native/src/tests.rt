@@ -1,0 +1,73 @@
+ghost use Rattle.std.specs.Prelude.{◌≡◌};
+
+use crate::{best_of_three, best_of_two, is_accepted};
+use spk_native::{EXTERNAL, INTERNAL, Rank, outbound_native};
+use std::test::Fail;
+use xb_domain::Side;
+
+const LOCAL: Side = Side {
+    number: 0,
+    asn: 65000,
+    address: 0xc00002fe,
+    id: 0xc00002fe,
+    kind: 0,
+};
+
+fn candidate(neighbour: u32, med: u32, address: u32) -> Rank
+    ensures { result.address ≡ address }
+{
+    Rank {
+        degree: 100,
+        hops: 1,
+        origin: 0,
+        med,
+        neighbour,
+        kind: EXTERNAL,
+        cost: 0,
+        id: address,
+        address,
+    }
+}
+
+fn peer(number: u32, kind: u8) -> Side {
+    Side {
+        number,
+        kind,
+        ..LOCAL
+    }
+}
+
+// ORIGIN IGP, an AS_PATH of one sequence with two AS numbers, NEXT_HOP 192.0.2.1
+const LOOPED: [u8; 24] = [
+    0x40, 1, 1, 0, 0x40, 2, 10, 2, 2, 0, 0, 0xfd, 0xe9, 0, 0, 0xfd, 0xe8, 0x40, 3, 4, 0xc0, 0, 2, 1,
+];
+
+const OTHER: [u8; 24] = [
+    0x40, 1, 1, 0, 0x40, 2, 10, 2, 2, 0, 0, 0xfd, 0xe9, 0, 0, 0xfd, 0xea, 0x40, 3, 4, 0xc0, 0, 2, 1,
+];
+
+#[test]
+fn own_as_is_rejected(rt: HostRuntime) -> Result<(), Fail> {
+    assert!(rt; !is_accepted(&LOOPED, &LOCAL));
+    assert!(rt; is_accepted(&OTHER, &LOCAL));
+    Ok(())
+}
+
+#[test]
+fn internal_routes_stay_inside(rt: HostRuntime) -> Result<(), Fail> {
+    assert!(rt; !outbound_native(&peer(1, INTERNAL), &peer(2, INTERNAL)));
+    assert!(rt; outbound_native(&peer(1, INTERNAL), &peer(2, EXTERNAL)));
+    assert!(rt; !outbound_native(&peer(1, EXTERNAL), &peer(1, EXTERNAL)));
+    Ok(())
+}
+
+#[test]
+fn meds_make_the_order_matter(rt: HostRuntime) -> Result<(), Fail> {
+    let first = candidate(65001, 20, 1);
+    let second = candidate(65002, 0, 2);
+    let third = candidate(65001, 10, 3);
+    assert_eq!(rt; best_of_three(first, second, third), 1);
+    assert_eq!(rt; best_of_two(first, second), first);
+    assert_eq!(rt; best_of_two(first, third), third);
+    Ok(())
+}
