@@ -1,3 +1,8 @@
+pub mod ExportLemmas
+pub mod RebuildsLemmas
+pub mod NarrowLemmas
+pub mod ReceiptLemmas
+pub mod ReceiptRows
 pub mod ValuesLemmas
 pub mod LeftLemmas
 pub mod OrderLemmas

@@ -1,3 +1,6 @@
+pub mod Export
+pub mod Receipt
+pub mod Rebuilds
 pub mod Values
 pub mod Decision
 pub mod Filters

@@ -30,7 +30,11 @@ number_or route code default = unwrap_or (number_at route code) default
 abbrev pub next_hop : Route → ℕ
 next_hop route = number_or route NEXT_HOP 0
 
+-- no attribute is malformed, with AS numbers of w octets
+abbrev pub IsFaultless : ℕ → Route → Type 0
+IsFaultless w route =
+    (code : ℕ) (a : Attribute) → attribute_at route code ≡ Some a → attr_fault w code a.flags a.value ≡ None
+
 -- no attribute is malformed, with AS numbers of four octets
 abbrev pub HasNoFault : Route → Type 0
-HasNoFault route =
-    (code : ℕ) (a : Attribute) → attribute_at route code ≡ Some a → attr_fault as_width code a.flags a.value ≡ None
+HasNoFault route = IsFaultless as_width route

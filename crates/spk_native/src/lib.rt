@@ -1,14 +1,29 @@
-//! What the speaker does with routes by RFC 4271 itself, when no program answers.
+//! What the speaker does with routes by RFC 4271 and RFC 6793 themselves, when no program answers.
 //!
 //! The decision of a set of candidates is [`survivor`], over what [`rank_of`] reads of each route and its side. The
 //! filters are [`inbound_native`] and [`outbound_native`]. `specs/Decision` has the eight keys of the decision,
-//! `specs/Filters` what is accepted. No memory is taken.
+//! `specs/Filters` what is accepted.
+//!
+//! [`native_section`] writes what a peer is sent of a route. The speaker's own routes have AS numbers of four octets:
+//! [`widen_route`] makes a received route one of them, and [`narrow_route`] makes a route what it becomes for a session
+//! with AS numbers of two octets. `specs/Export` says what is sent and `specs/Receipt` what a route becomes by the form
+//! of a session; `specs/Rebuilds` has the words of private functions. Both conversions replace a route's attributes of
+//! four codes: four.rt does that, narrow.rt and wide.rt compute the new attributes.
+//!
+//! No memory is taken.
 #![tactic(auto)]
 
 mod decision;
+mod export;
 mod filters;
+mod four;
 pub mod laws;
+mod narrow;
+mod receipt;
 mod values;
+mod wide;
 
 pub use decision::{MAX_CANDIDATES, Rank, rank_of, survivor};
+pub use export::native_section;
 pub use filters::{EXTERNAL, INTERNAL, inbound_native, outbound_native};
+pub use receipt::{MAX_SENT, narrow_route, widen_route};

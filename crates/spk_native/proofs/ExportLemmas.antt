@@ -1,0 +1,56 @@
+-- The section that a peer is sent, part by part of the route.
+use Rattle.std.proofs.Common.{◌≡◌, inl, inr, refl, sym, ap, ◌∙◌, ℕ, ◌+◌, ◌≤◌, true, false, List, [], ◌∷◌, ◌++◌, length, Option, Some, arith, append_assoc}
+use Rattle.std.proofs.lemmas.Bool.{cases_Bool}
+use Rattle.std.proofs.lemmas.List.{length-append, append-nil}
+use Rattle.bgp_attr.specs.Routes.{Route, attribute_at, canon, canonical}
+use Rattle.xbgp_view.specs.Sections.{entry_of, entry_octets, below_code}
+use Rattle.xbgp_view.specs.Views.{flags_and_length}
+use Rattle.xbgp_view.proofs.ViewsLemmas.{IsNext, flags_and_length-some, value_in}
+use Rattle.spk_native.specs.Export.{is_passed_on, native_section}
+
+native_section-append : (l u : Route) → native_section (l ++ u) ≡ native_section l ++ native_section u
+native_section-append [] u = refl
+native_section-append (e ∷ l) u = elim (cases_Bool (is_passed_on e)) [
+  | inl sent ↦ rw sent (ap (λ t. canonical e ++ t) (native_section-append l u)
+      ∙ sym (append_assoc (canonical e) (native_section l) (native_section u)))
+  | inr left ↦ rw left (native_section-append l u)
+]
+
+-- no more is sent than the route has
+pub length-native_section : (r : Route) → length (native_section r) ≤ length (canon r)
+length-native_section [] = omega arith
+length-native_section (e ∷ r) = elim (cases_Bool (is_passed_on e)) [
+  | inl sent ↦ rw sent (omega (
+    arith,
+    length-native_section r,
+    length-append (canonical e) (native_section r),
+    length-append (canonical e) (canon r),
+  ))
+  | inr left ↦ rw left (omega (arith, length-native_section r, length-append (canonical e) (canon r)))
+]
+
+-- the octets of the next entry follow those of the entries below
+pub native_section-next : (r : Route) (from code : ℕ) → IsNext r from code
+    → native_section (below_code (code + 1) r)
+    ≡ native_section (below_code from r) ++ native_section (entry_of code (attribute_at r code))
+native_section-next r from code next =
+    ap native_section next.lower ∙ native_section-append (below_code from r) (entry_of code (attribute_at r code))
+
+-- an entry that is not sent
+pub native_section-left_out : (r : Route) (code flags n : ℕ)
+    → ◌≡◌ {A = Option (ℕ × ℕ)} (Some (flags, n)) (flags_and_length r code)
+    → ((value : List ℕ) → false ≡ is_passed_on (code, record { flags = flags; value = value }))
+    → native_section (entry_of code (attribute_at r code)) ≡ []
+native_section-left_out r code flags n e left =
+    let found = flags_and_length-some (attribute_at r code) flags n e in
+    rw (found.0, sym (left (value_in (attribute_at r code)))) refl
+
+-- an entry that is sent
+pub native_section-sent : (r : Route) (code flags n : ℕ)
+    → ◌≡◌ {A = Option (ℕ × ℕ)} (Some (flags, n)) (flags_and_length r code)
+    → ((value : List ℕ) → true ≡ is_passed_on (code, record { flags = flags; value = value }))
+    → native_section (entry_of code (attribute_at r code)) ≡ entry_octets code (attribute_at r code)
+native_section-sent r code flags n e sent =
+    let v = value_in (attribute_at r code) in
+    let found = flags_and_length-some (attribute_at r code) flags n e in
+    rw (found.0, sym (sent v)) (append-nil (canonical (code, record { flags = flags; value = v })))

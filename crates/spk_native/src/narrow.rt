@@ -1,0 +1,175 @@
+// Attributes with AS numbers of four octets in two (RFC 6793, section 4.2.2).
+ghost use Rattle.std.specs.Prelude.{◌≡◌, ◌+◌, ◌*◌, ◌≤◌, ◌++◌, length, true, not, Some, if◌then◌else◌, IfSome};
+ghost use Rattle.std.specs.List.{list_any};
+ghost use Rattle.bgp_attr.specs.Paths.{path_ok as is_path, numbers_of};
+ghost use Rattle.bgp_attr.specs.Routes.{Attribute, IsRoute};
+ghost use Rattle.bgp_path.specs.Widths.{is_narrow as fits_two, narrow_number as number_in_two, narrow_path};
+ghost use Rattle.spk_native.specs.Receipt.{is_wide_path as has_wide, is_wide_aggregator as has_wide_as};
+ghost use Rattle.spk_native.specs.Receipt.{narrow_aggregator as in_two};
+ghost use Rattle.spk_native.specs.Values.{HasNoFault};
+ghost use Rattle.spk_native.specs.Rebuilds.{beside, or_other, valued, narrow_four as four_in_two};
+
+use crate::four::{Four, Held, four_in};
+use bgp_attr::MAX_CANONICAL;
+use bgp_attr::flags::OPTIONAL_TRANSITIVE;
+use bgp_attr::segments::AS_TRANS;
+use bgp_path::{Segments, narrow_into};
+use xb_words::u32_at;
+use xbgp_view::Overlay;
+
+// Whether two octets can hold an AS number.
+fn is_narrow(asn: u32) -> bool
+    ensures { result ≡ fits_two asn }
+{
+    asn <= u32::from(u16::MAX)
+}
+
+// The number that two octets have for an AS number.
+fn narrow_number(asn: u32) -> u16
+    ensures { result ≡ number_in_two asn }
+{
+    if is_narrow(asn) {
+        asn as u16
+    } else {
+        AS_TRANS as u16
+    }
+}
+
+// Whether two octets cannot hold some AS number of a segment.
+fn has_wide_number(octets: &[u8], count: u8) -> bool
+    requires { length octets.now ≡ 4 * count }
+    ensures { result ≡ list_any (λ n. not (fits_two n)) (numbers_of 4 count octets.now) }
+{
+    let mut rest = octets;
+    let mut left = count;
+    'numbers: while left > 0 {
+        if !is_narrow(u32_at(rest, 0)) {
+            return true;
+        }
+        rest = rest.split_at(4).1;
+        left -= 1;
+    }
+    false
+}
+
+// Whether two octets cannot hold some AS number of a path.
+fn is_wide_path(value: &[u8]) -> bool
+    requires path { is_path 4 value.now ≡ true }
+    requires short { length value.now ≤ MAX_CANONICAL }
+    ensures { result ≡ has_wide value.now }
+{
+    let Some(mut walk) = Segments::wide(value) else {
+        return false;
+    };
+    'segments: while let Some(segment) = walk.next() {
+        if has_wide_number(segment.octets, segment.count) {
+            return true;
+        }
+    }
+    false
+}
+
+// Whether two octets cannot hold the AS number of an AGGREGATOR.
+fn is_wide_aggregator(value: &[u8]) -> bool
+    requires { 4 ≤ length value.now }
+    ensures { result ≡ has_wide_as value.now }
+{
+    !is_narrow(u32_at(value, 0))
+}
+
+// An AS_PATH in two octets a number.
+fn narrow_path_of(path: &Held) -> Held
+    requires { is_path 4 path.now.value ≡ true }
+    ensures { result ≡ record { flags = path.now.flags; value = narrow_path path.now.value } }
+{
+    let mut octets = [0u8; MAX_CANONICAL];
+    let len = narrow_into(path.value(), &mut octets).unwrap_or(0);
+    Held {
+        flags: path.flags(),
+        len,
+        octets,
+    }
+}
+
+// An AGGREGATOR with an AS number of two octets.
+fn narrow_aggregator_of(aggregator: &Held) -> Held
+    requires { length aggregator.now.value ≡ 8 }
+    ensures { result ≡ record { flags = aggregator.now.flags; value = in_two aggregator.now.value } }
+{
+    let value = aggregator.value();
+    let asn = narrow_number(u32_at(value, 0)).to_be_bytes();
+    Held::joined(aggregator.flags(), &asn, value.split_at(4).1)
+}
+
+// What a route has for a code of four octets: the value of a code that two octets cannot hold, or what it had.
+fn or_wide(wide: bool, from: &Held, had: Option<Held>) -> Option<Held>
+    ensures { result ≡ (if wide
+        then Some (record { flags = OPTIONAL_TRANSITIVE; value = from.now.value })
+        else had) }
+{
+    if wide {
+        Some(Held::joined(OPTIONAL_TRANSITIVE, from.value(), &[]))
+    } else {
+        had
+    }
+}
+
+fn path4_of(path: &Option<Held>, had: Option<Held>) -> Option<Held>
+    requires { IfSome path.now (λ p. is_path 4 p.value ≡ true) }
+    ensures { result ≡ or_other (beside has_wide path.now) had }
+{
+    match path {
+        None => had,
+        Some(path) => or_wide(is_wide_path(path.value()), path, had),
+    }
+}
+
+fn aggregator4_of(aggregator: &Option<Held>, had: Option<Held>) -> Option<Held>
+    requires { IfSome aggregator.now (λ a. length a.value ≡ 8) }
+    ensures { result ≡ or_other (beside has_wide_as aggregator.now) had }
+{
+    match aggregator {
+        None => had,
+        Some(from) => or_wide(is_wide_aggregator(from.value()), from, had),
+    }
+}
+
+fn narrow_path_if(path: &Option<Held>) -> Option<Held>
+    requires { IfSome path.now (λ p. is_path 4 p.value ≡ true) }
+    ensures { result ≡ valued narrow_path path.now }
+{
+    match path {
+        None => None,
+        Some(path) => Some(narrow_path_of(path)),
+    }
+}
+
+fn narrow_aggregator_if(aggregator: &Option<Held>) -> Option<Held>
+    requires { IfSome aggregator.now (λ a. length a.value ≡ 8) }
+    ensures { result ≡ valued in_two aggregator.now }
+{
+    match aggregator {
+        None => None,
+        Some(aggregator) => Some(narrow_aggregator_of(aggregator)),
+    }
+}
+
+/// What a route has for the four codes in a session with AS numbers of two octets.
+pub(crate) fn narrow_four(route: &Overlay) -> Four
+    requires { HasNoFault route.now.route }
+    ensures shape { IsRoute route.now.route }
+    ensures value { result ≡ four_in_two route.now.route }
+{
+    let Four {
+        path,
+        aggregator,
+        path4,
+        aggregator4,
+    } = four_in(route);
+    Four {
+        path4: path4_of(&path, path4),
+        aggregator4: aggregator4_of(&aggregator, aggregator4),
+        path: narrow_path_if(&path),
+        aggregator: narrow_aggregator_if(&aggregator),
+    }
+}
