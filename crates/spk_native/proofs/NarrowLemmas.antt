@@ -100,4 +100,5 @@ pub list_any-has_wide : (s : List ℕ) → list_any has_wide (path_parts 4 s) �
 unfolding path_parts
 list_any-has_wide s =
     any_has_wide (path_parts 4 s)
-    ∙ ap (list_any (λ (t : Segment). list_any (λ n. not (is_narrow n)) t.numbers)) (segments_of_parts (cut (segment_size 4) s).items)
+    ∙ ap (list_any (λ (t : Segment). list_any (λ n. not (is_narrow n)) t.numbers))
+    (segments_of_parts (cut (segment_size 4) s).items)

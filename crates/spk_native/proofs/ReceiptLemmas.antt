@@ -174,7 +174,8 @@ kept_same r code is = go (attribute_at r code) refl
   where
     go : (o : Option Attribute) → attribute_at r code ≡ o → kept o ≡ o
     go None e = refl
-    go (Some a) e = ap (λ f. Some (record { flags = f; value = a.value })) (IsEntry-attribute_at r code a is.entries e).0
+    go (Some a) e = ap (λ f. Some (record { flags = f; value = a.value }))
+        (IsEntry-attribute_at r code a is.entries e).0
 
 -- a narrow route is a route with other attributes for the four codes
 pub rebuilt-narrow : (r : Route) → IsRoute r → rebuilt (narrow_four r) r ≡ narrow r

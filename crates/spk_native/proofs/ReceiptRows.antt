@@ -122,7 +122,9 @@ unfolding cut narrow_path narrow
 both_beside = refl
 
 both_beside_again :
-    inflow (narrow (route_of (octets (codes "4001010040020a010200030d400000fde8400304c00002fee00708ffffffff0a000001")))) false
+    inflow
+    (narrow (route_of (octets (codes "4001010040020a010200030d400000fde8400304c00002fee00708ffffffff0a000001"))))
+    false
     ≡ route_of (octets (codes "4001010040020a010200030d400000fde8400304c00002fee00708ffffffff0a000001"))
 unfolding cut wide_path narrow_path merge inflow narrow
 both_beside_again = refl

@@ -9,7 +9,8 @@ use Rattle.bgp_attr.specs.Rules.{is_known}
 abbrev pub is_transitive : ℕ → Bool
 is_transitive flags = not (bit_and flags TRANSITIVE == 0)
 
--- the codes of AS4_PATH and AS4_AGGREGATOR, which only a session with AS numbers of two octets has (RFC 6793, section 3)
+-- the codes of AS4_PATH and AS4_AGGREGATOR, which only sessions with AS numbers of two octets have (RFC 6793, section
+-- 3)
 abbrev pub is_of_narrow : ℕ → Bool
 is_of_narrow code = code == AS4_PATH || code == AS4_AGGREGATOR
 

@@ -26,7 +26,8 @@ set_if code (Some a) r = with_attribute r code a.flags a.value
 -- the route without the four codes
 abbrev pub bare : Route → Route
 bare r =
-    without_attribute (without_attribute (without_attribute (without_attribute r AS_PATH) AGGREGATOR) AS4_PATH) AS4_AGGREGATOR
+    without_attribute (without_attribute (without_attribute (without_attribute r AS_PATH) AGGREGATOR) AS4_PATH)
+    AS4_AGGREGATOR
 
 -- the octets of the attributes
 abbrev pub four_size : Four → ℕ
@@ -44,7 +45,8 @@ four_of r = record {
 -- the route with these attributes for the four codes
 abbrev pub rebuilt : Four → Route → Route
 rebuilt f r =
-    set_if AS4_AGGREGATOR f.aggregator4 (set_if AS4_PATH f.path4 (set_if AGGREGATOR f.aggregator (set_if AS_PATH f.path (bare r))))
+    set_if AS4_AGGREGATOR f.aggregator4
+    (set_if AS4_PATH f.path4 (set_if AGGREGATOR f.aggregator (set_if AS_PATH f.path (bare r))))
 
 -- the attribute with another value
 abbrev pub valued : (List ℕ → List ℕ) → Option Attribute → Option Attribute

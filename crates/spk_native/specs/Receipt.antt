@@ -1,5 +1,5 @@
--- Routes on their way from a session with AS numbers of two octets, and to one (RFC 6793, sections 4.2.2 and 4.2.3). The
--- routes that the speaker keeps have four octets for an AS number.
+-- Routes on their way from a session with AS numbers of two octets, and to one (RFC 6793, sections 4.2.2 and 4.2.3).
+-- The routes that the speaker keeps have four octets for an AS number.
 use Rattle.std.specs.Prelude.{ℕ, Bool, true, false, List, ◌++◌, length, drop, Option, Some, None}
 use Rattle.std.specs.Prelude.{◌==◌, ◌&&◌, ◌||◌, not, if◌then◌else◌}
 use Rattle.std.specs.List.{list_any}

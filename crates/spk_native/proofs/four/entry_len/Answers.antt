@@ -15,6 +15,7 @@ returns-in-Some-clause-value c =
 
 pub returns-in-Some-clause-bound : goal.returns-in-Some-clause-bound
 returns-in-Some-clause-bound c =
-    let short = IsShort-some c.args.route.now.route c.args.code c.in-Some.field-0-0 c.in-Some.len c.in-Some.ensures.shape
+    let short = IsShort-some c.args.route.now.route c.args.code c.in-Some.field-0-0 c.in-Some.len
+    c.in-Some.ensures.shape
     c.in-Some.ensures.value in
     omega (arith, short.size, short.whole, c.spelled_len.ensures)

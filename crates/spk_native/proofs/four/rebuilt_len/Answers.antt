@@ -24,4 +24,10 @@ pub returns-clause-sum : goal.returns-clause-sum
 returns-clause-sum c =
     let r = c.args.route.now.route in
     let rising = c.entries_len.ensures.shape.rising in
-    omega (arith, length-bare r rising, c.section_len.ensures.value, c.entries_len.ensures.value, c.four_len.ensures.value)
+    omega (
+      arith,
+      length-bare r rising,
+      c.section_len.ensures.value,
+      c.entries_len.ensures.value,
+      c.four_len.ensures.value,
+    )

@@ -9,7 +9,8 @@ pub returns : goal.returns
 returns c =
     let v = c.value.result.now in
     let same = c.value.ensures.value in
-    let text = take-written c.narrow_into.result _ c.narrow_into.new.out (narrow_path v) c.unwrap_or-len.result MAX_CANONICAL
+    let text = take-written c.narrow_into.result _ c.narrow_into.new.out (narrow_path v) c.unwrap_or-len.result
+    MAX_CANONICAL
     c.narrow_into.ensures.written refl
     (omega (arith, length-narrow_path v (ap (path_ok 4) same ∙ c.requires), c.value.ensures.bound))
     c.unwrap_or-len.ensures in

@@ -8,7 +8,8 @@ use Rattle.spk_native.specs.Rebuilds.{rebuilt}
 use Rattle.spk_native.proofs.ReceiptLemmas.{rebuilt-narrow}
 use Rattle.spk_native.proofs.receipt.narrow_route.Goals as goal
 
-same : (c : goal.After-rebuild) → rebuilt c.narrow_four-four.result c.args.route.now.route ≡ narrow c.args.route.now.route
+same : (c : goal.After-rebuild)
+    → rebuilt c.narrow_four-four.result c.args.route.now.route ≡ narrow c.args.route.now.route
 same c =
     let r = c.args.route.now.route in
     ap (λ (f : Four). rebuilt f r) c.narrow_four-four.ensures.value ∙ rebuilt-narrow r c.narrow_four-four.ensures.shape

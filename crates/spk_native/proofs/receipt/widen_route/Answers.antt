@@ -8,7 +8,8 @@ use Rattle.spk_native.specs.Rebuilds.{rebuilt}
 use Rattle.spk_native.proofs.ReceiptLemmas.{rebuilt-wide, inflow-wide}
 use Rattle.spk_native.proofs.receipt.widen_route.Goals as goal
 
-in_wide : (c : goal.After-drop_narrow) → without_narrow c.args.route.now.route ≡ inflow c.args.route.now.route c.args.wide
+in_wide : (c : goal.After-drop_narrow)
+    → without_narrow c.args.route.now.route ≡ inflow c.args.route.now.route c.args.wide
 in_wide c =
     let r = c.args.route.now.route in
     sym (ap (inflow r) c.if-wide.true ∙ inflow-wide r)
@@ -24,7 +25,8 @@ returns-then-wide-clause-after c =
     (c.drop_narrow.new.route ≡ c.args.route.now))
     (in_wide c) c.drop_narrow.ensures.after
 
-in_two : (c : goal.After-rebuild) → rebuilt c.in-Ok.four c.args.route.now.route ≡ inflow c.args.route.now.route c.args.wide
+in_two : (c : goal.After-rebuild)
+    → rebuilt c.in-Ok.four c.args.route.now.route ≡ inflow c.args.route.now.route c.args.wide
 in_two c =
     let r = c.args.route.now.route in
     ap (λ (f : Four). rebuilt f r) c.in-Ok.ensures.value ∙ rebuilt-wide r c.in-Ok.ensures.shape

@@ -22,7 +22,8 @@ returns-in_err-wide_path-clause-room c =
     let r = c.args.route.now.route in
     let f = c.four_in-path.result in
     let is = c.four_in-path.ensures.value in
-    let counts = used r f c.good_aggregator_in-wide.result c.good_path_in.result c.unless.result c.aggregated_since-since.result
+    let counts = used r f c.good_aggregator_in-wide.result c.good_path_in.result c.unless.result
+    c.aggregated_since-since.result
     (good_path r) is c.good_aggregator_in-wide.ensures.value c.aggregated_since-since.ensures c.unless.ensures
     (c.good_path_in.ensures.value ∙ ap (λ (g : Four). good is_good_path g.path4) is) in
     let path = ap (λ q. valued (path_with q) f.path) counts
