@@ -26,4 +26,4 @@ mod wide;
 pub use decision::{MAX_CANDIDATES, Rank, rank_of, survivor};
 pub use export::native_section;
 pub use filters::{EXTERNAL, INTERNAL, inbound_native, outbound_native};
-pub use receipt::{MAX_SENT, narrow_route, widen_route};
+pub use receipt::{narrow_route, widen_route};

@@ -9,23 +9,19 @@ use crate::four::{entry_len, rebuild};
 use crate::narrow::narrow_four;
 use crate::wide::wide_four;
 use bgp_attr::codes::{AS4_AGGREGATOR, AS4_PATH};
-use xb_wire::numbers::MAX_MESSAGE;
+use xb_wire::numbers::{MAX_MESSAGE, MAX_SECTION};
 use xbgp_view::Overlay;
 
-/// The most octets of path attributes in an UPDATE with one prefix: of 4,096 octets, 19 are the header, 4 the lengths
-/// of withdrawn prefixes and of attributes, and 5 the prefix (RFC 4271, section 4.3).
-pub const MAX_SENT: usize = 4068;
-
 /// Makes a route what it becomes for a session with AS numbers of two octets and returns true, or false, with nothing
-/// changed, if the canonical section would then have more than [`MAX_SENT`] octets (RFC 6793, section 4.2.2).
+/// changed, if the canonical section would then have more than [`MAX_SECTION`] octets (RFC 6793, section 4.2.2).
 pub fn narrow_route(route: &mut Overlay) -> bool
     requires { HasNoFault route.old.route }
-    ensures fits { result ≡ nat_le (length (canon (narrow route.old.route))) MAX_SENT }
+    ensures fits { result ≡ nat_le (length (canon (narrow route.old.route))) MAX_SECTION }
     ensures after { MatchBool result
         (route.new ≡ record route.old { route = narrow route.old.route }) (route.new ≡ route.old) }
 {
     let four = narrow_four(route);
-    rebuild(route, &four, MAX_SENT)
+    rebuild(route, &four, MAX_SECTION)
 }
 
 // Removes AS4_PATH and AS4_AGGREGATOR, if what is left is short enough.

@@ -2,7 +2,7 @@ use Rattle.std.proofs.Common.{◌≡◌, ap, subst, ◌∙◌, length, nat_le}
 use Rattle.std.specs.Prelude.{MatchBool}
 use Rattle.bgp_attr.specs.Routes.{Route, canon}
 use Rattle.spk_native.specs.declared.four.Four.{Four}
-use Rattle.spk_native.specs.declared.receipt.TheConstants.{MAX_SENT}
+use Rattle.xb_wire.specs.declared.numbers.TheConstants.{MAX_SECTION}
 use Rattle.spk_native.specs.Receipt.{narrow}
 use Rattle.spk_native.specs.Rebuilds.{rebuilt}
 use Rattle.spk_native.proofs.ReceiptLemmas.{rebuilt-narrow}
@@ -15,7 +15,7 @@ same c =
     ap (λ (f : Four). rebuilt f r) c.narrow_four-four.ensures.value ∙ rebuilt-narrow r c.narrow_four-four.ensures.shape
 
 pub returns-clause-fits : goal.returns-clause-fits
-returns-clause-fits c = c.rebuild.ensures.fits ∙ ap (λ s. nat_le (length (canon s)) MAX_SENT) (same c)
+returns-clause-fits c = c.rebuild.ensures.fits ∙ ap (λ s. nat_le (length (canon s)) MAX_SECTION) (same c)
 
 pub returns-clause-after : goal.returns-clause-after
 returns-clause-after c =
