@@ -2,7 +2,6 @@
 use Rattle.std.proofs.Common.{◌≡◌, inl, inr, refl, sym, ap, ◌∙◌, ℕ, ◌+◌, ◌≤◌, Bool, true, false, List, [], length, map, Option, Some, None, arith, nat_le, nat_lt, unwrap_or}
 use Rattle.std.specs.Prelude.{is_none, is_some, if◌then◌else◌, ◌==◌}
 use Rattle.std.specs.Option.{option_map}
-use Rattle.std.specs.Ordering.{nat_cmp}
 use Rattle.std.proofs.lemmas.Bool.{cases_Bool, le-leb}
 use Rattle.std.proofs.lemmas.Bool.Decides.{eqb_tells}
 use Rattle.xb_words.specs.Octets.{four_octets}
@@ -136,8 +135,8 @@ length-hop r text octets is e four =
 pub record IsExternal (r next : Route) (local : Side) (octets : List ℕ) : Type 0 where
   pub fits : nat_le (length (canon (with_attribute next NEXT_HOP WELL_KNOWN octets))) MAX_CANONICAL ≡ true
   pub after :
-    without_attribute (without_attribute (with_attribute next NEXT_HOP WELL_KNOWN octets) LOCAL_PREF) MULTI_EXIT_DISC
-    ≡ to_external r local
+      without_attribute (without_attribute (with_attribute next NEXT_HOP WELL_KNOWN octets) LOCAL_PREF) MULTI_EXIT_DISC
+      ≡ to_external r local
   pub bound : length (canon (to_external r local)) ≤ length (canon next)
 
 pub IsExternal-hop : (r next : Route) (local : Side) (octets : List ℕ) → IsRoute r → length (canon next) ≤ MAX_CANONICAL

@@ -112,8 +112,10 @@ fn prepend_number(route: &mut Overlay, asn: u32)
     requires short { length (canon route.old.route) ≤ MAX_MESSAGE }
     requires path { has_sound route.old.route AS_PATH ≡ true }
     ensures shape { IsRoute route.old.route }
-    ensures after { route.new ≡ record route.old { route = with_attribute route.old.route AS_PATH WELL_KNOWN
-        (path_octets as_width (prepend asn (path_of route.old.route))) } }
+    ensures after { route.new ≡ record route.old {
+      route = with_attribute route.old.route AS_PATH WELL_KNOWN
+          (path_octets as_width (prepend asn (path_of route.old.route)));
+    } }
     ensures bound { length (canon route.new.route) ≤ length (canon route.old.route) + MAX_ADDED }
 {
     let Some(held) = copy_out(route, AS_PATH) else {
@@ -136,7 +138,12 @@ fn send_external(route: &mut Overlay, local: &Side)
     ensures bound { length (canon route.new.route) ≤ length (canon route.old.route) + MAX_ADDED }
 {
     prepend_number(route, local.asn);
-    let _ = route.set(NEXT_HOP, WELL_KNOWN, &local.address.to_be_bytes(), MAX_CANONICAL);
+    let _ = route.set(
+        NEXT_HOP,
+        WELL_KNOWN,
+        &local.address.to_be_bytes(),
+        MAX_CANONICAL,
+    );
     let _ = route.unset(LOCAL_PREF);
     let _ = route.unset(MULTI_EXIT_DISC);
 }
@@ -148,7 +155,12 @@ fn send_internal(route: &mut Overlay, local_pref: u32)
     ensures bound { length (canon route.new.route) ≤ length (canon route.old.route) + MAX_ADDED }
 {
     if route.flags_len(LOCAL_PREF).is_none() {
-        let _ = route.set(LOCAL_PREF, WELL_KNOWN, &local_pref.to_be_bytes(), MAX_CANONICAL);
+        let _ = route.set(
+            LOCAL_PREF,
+            WELL_KNOWN,
+            &local_pref.to_be_bytes(),
+            MAX_CANONICAL,
+        );
     }
 }
 

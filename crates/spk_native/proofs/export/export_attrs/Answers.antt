@@ -1,4 +1,4 @@
-use Rattle.std.proofs.Common.{◌≡◌, ◌+◌, ◌∙◌, refl, ap, sym, length, arith}
+use Rattle.std.proofs.Common.{◌∙◌, refl, ap, length, arith}
 use Rattle.bgp_attr.specs.declared.codes.TheConstants.{AS_PATH, NEXT_HOP}
 use Rattle.bgp_attr.specs.Routes.{canon}
 use Rattle.xbgp_view.specs.Views.{Edited}

@@ -1,4 +1,4 @@
-use Rattle.std.proofs.Common.{◌≡◌, ◌∙◌, ap, sym}
+use Rattle.std.proofs.Common.{◌∙◌, ap, sym}
 use Rattle.spk_native.specs.Export.{is_transitive}
 use Rattle.spk_native.proofs.MarksLemmas.{marked_at-known, marked_at-none, marked_at-left, IsMarkSet-some}
 use Rattle.spk_native.proofs.MarksLemmas.{is_transitive-set, is_transitive-unset}

@@ -1,4 +1,4 @@
-use Rattle.std.proofs.Common.{◌≡◌, ◌+◌, ◌∙◌, ap, sym, length, arith}
+use Rattle.std.proofs.Common.{◌∙◌, ap, length, arith}
 use Rattle.bgp_attr.specs.declared.codes.TheConstants.{MULTI_EXIT_DISC, LOCAL_PREF}
 use Rattle.bgp_attr.specs.Routes.{canon, without_attribute}
 use Rattle.xbgp_view.specs.Views.{Edited}

@@ -1,4 +1,4 @@
-use Rattle.std.proofs.Common.{◌≡◌, ◌+◌, ◌∙◌, ap, length, arith}
+use Rattle.std.proofs.Common.{◌∙◌, ap, length, arith}
 use Rattle.std.specs.Prelude.{not}
 use Rattle.bgp_attr.specs.Routes.{canon}
 use Rattle.xbgp_view.specs.Views.{Edited}
