@@ -11,3 +11,6 @@ pub mod FoldLemmas
 pub mod DecisionRows
 pub mod MarksLemmas
 pub mod CarryLemmas
+pub mod FormedLemmas
+pub mod WideNarrowLemmas
+pub mod SoundLemmas
