@@ -159,23 +159,25 @@ IsFormed-route_of s o =
           (items-octets (attributes s) (AllByRecursion-left (λ b. b < 256) (concat p.items) p.rest joined));
     }
 
-each_entry : (P : Attribute → Type 0) (r : Route) → AllByRecursion IsEntry r
-    → ((e : ℕ × Attribute) → IsEntry e → P e.1) → (code : ℕ) (a : Attribute) → attribute_at r code ≡ Some a → P a
-each_entry P [] all from code a e = absurd (cc e)
-each_entry P (x ∷ r) all from code a e = elim (cases_Bool (is_eq (nat_cmp code x.0))) [
+-- what holds of each entry holds of each attribute
+pub each_entry : (Q : ℕ × Attribute → Type 0) (P : ℕ → Attribute → Type 0) (r : Route) → AllByRecursion Q r
+    → ((e : ℕ × Attribute) → Q e → P e.0 e.1) → (code : ℕ) (a : Attribute) → attribute_at r code ≡ Some a → P code a
+each_entry Q P [] all from code a e = absurd (cc e)
+each_entry Q P (x ∷ r) all from code a e = elim (cases_Bool (is_eq (nat_cmp code x.0))) [
   | inl here ↦
+      let key : code ≡ x.0 = eq-nat_cmp code x.0 (is_eq-true (nat_cmp code x.0) here) in
       let found : Some x.1 ≡ Some a = rw here at e in
       let same : x.1 ≡ a = cc found in
-      subst (λ (v : Attribute). P v) same (from x all.0)
-  | inr other ↦ each_entry P r all.1 from code a (rw other at e)
+      subst (λ (k : ℕ). P k a) (sym key) (subst (λ (v : Attribute). P x.0 v) same (from x all.0))
+  | inr other ↦ each_entry Q P r all.1 from code a (rw other at e)
 ]
 
 -- a route that a view shows is one
 pub IsFormed-IsRoute : (r : Route) → IsRoute r → IsFormed r
 IsFormed-IsRoute r is = record {
   rising = is.rising;
-  flags = each_entry (λ a. kept_flags a.flags ≡ a.flags) r is.entries (λ e entry. entry.flags);
-  octets = each_entry (λ a. AreOctets a.value) r is.entries (λ e entry. entry.value);
+  flags = each_entry IsEntry (λ code a. kept_flags a.flags ≡ a.flags) r is.entries (λ e entry. entry.flags);
+  octets = each_entry IsEntry (λ code a. AreOctets a.value) r is.entries (λ e entry. entry.value);
 }
 
 -- what is left after a removal was there

@@ -2,6 +2,7 @@
 use Rattle.std.proofs.Common.{◌≡◌, inl, inr, refl, sym, ap, subst, ◌∙◌, ℕ, ◌+◌, ◌<◌, ◌≤◌, Bool, true, false, List, [], ◌∷◌, length, map, Option, Some, None, arith, min, nat_le, nat_lt}
 use Rattle.std.specs.Prelude.{bit_and, bit_or, not, ◌&&◌, ◌==◌, if◌then◌else◌}
 use Rattle.std.specs.Int.{bit_at}
+use Rattle.std.specs.Option.{option_map}
 use Rattle.std.specs.List.{AllByRecursion}
 use Rattle.std.specs.List.Sorted.{IsStrictlySortedBy}
 use Rattle.std.specs.Map.{keys_of}
@@ -39,7 +40,7 @@ whole-marked_partial : (e : ℕ × Attribute) → marked_partial e ≡ (e.0, (ma
 whole-marked_partial e = ap (λ k. (k, (marked_partial e).1)) (key-marked_partial e)
 
 -- one that is recognized stays
-known-marked_partial : (e : ℕ × Attribute) → is_known e.0 ≡ true → marked_partial e ≡ e
+pub known-marked_partial : (e : ℕ × Attribute) → is_known e.0 ≡ true → marked_partial e ≡ e
 known-marked_partial e known = rw known refl
 
 apart : (a b : ℕ) → b < a → (a == b) ≡ false
@@ -357,3 +358,25 @@ at-marked (e ∷ r) code known = elim (cases_Bool (is_eq (nat_cmp code e.0))) [
       ap (λ k. is_eq (nat_cmp code k)) (key-marked_partial e) ∙ other in
       rw (other, other') (at-marked r code known)
 ]
+
+-- and each other attribute is marked
+pub at-marked_partial : (r : Route) (code : ℕ)
+    → attribute_at (map marked_partial r) code ≡ option_map (λ a. (marked_partial (code, a)).1) (attribute_at r code)
+at-marked_partial [] code = refl
+at-marked_partial (e ∷ r) code = elim (cases_Bool (is_eq (nat_cmp code e.0))) [
+  | inl here ↦
+      let key : code ≡ e.0 = eq-nat_cmp code e.0 (is_eq-true (nat_cmp code e.0) here) in
+      let here' : is_eq (nat_cmp code (marked_partial e).0) ≡ true =
+      ap (λ k. is_eq (nat_cmp code k)) (key-marked_partial e) ∙ here in
+      rw (here, here') (ap (λ k. Some (marked_partial (k, e.1)).1) (sym key))
+  | inr other ↦
+      let other' : is_eq (nat_cmp code (marked_partial e).0) ≡ false =
+      ap (λ k. is_eq (nat_cmp code k)) (key-marked_partial e) ∙ other in
+      rw (other, other') (at-marked_partial r code)
+]
+
+pub keys_of-marked : (r : Route) → keys_of (map marked_partial r) ≡ keys_of r
+keys_of-marked [] = refl
+keys_of-marked (e ∷ r) =
+    ap (λ k. k ∷ keys_of (map marked_partial r)) (key-marked_partial e)
+    ∙ ap (λ (l : List ℕ). e.0 ∷ l) (keys_of-marked r)
