@@ -14,6 +14,7 @@ use Rattle.std.proofs.lemmas.List.{length-append, length-drop}
 use Rattle.xb_words.specs.Octets.{AreOctets, two_at, four_octets}
 use Rattle.xb_words.specs.Optional.{or_else}
 use Rattle.xb_words.specs.Table.{with_value}
+use Rattle.xb_wire.specs.Messages.{Update, lengths_fit, update_of, update_parts}
 use Rattle.xb_domain.specs.declared.side.Side.{Side}
 use Rattle.bgp_attr.specs.declared.codes.TheConstants.{ORIGIN, AS_PATH, NEXT_HOP, LOCAL_PREF, AS4_PATH}
 use Rattle.bgp_attr.specs.declared.codes.TheConstants.{AS4_AGGREGATOR}
@@ -23,7 +24,7 @@ use Rattle.bgp_attr.specs.Routes.{Attribute, Route, attribute_at, with_attribute
 use Rattle.bgp_attr.specs.Routes.{route_of}
 use Rattle.bgp_attr.specs.Rules.{attr_fault}
 use Rattle.bgp_check.specs.Judgement.{attr_notice, attribute_check, first_check, has_code, is_clean}
-use Rattle.bgp_check.specs.Judgement.{judge_section, missing, missing_notice}
+use Rattle.bgp_check.specs.Judgement.{judge, judge_parts, judge_section, missing, missing_notice}
 use Rattle.bgp_path.proofs.WidthsLemmas.{path_ok-wide_path, path_ok-merge}
 use Rattle.xbgp_view.proofs.LowerLemmas.{nat_cmp-equal}
 use Rattle.spk_native.specs.Filters.{as_received, is_external}
@@ -78,6 +79,20 @@ IsChecked-judge_section w s announces e =
     let first = or_else_none _ _ e in
     let second = or_else_none _ _ first.1 in
     record { each = second.0; complete = (or_else_none _ _ second.1).0 }
+
+-- the section of an UPDATE without fault has none
+pub judge_section-judge : (w : ℕ) (body : List ℕ) (u : Update) → judge w body ≡ None → update_of body ≡ Some u
+    → judge_section w u.section (not (length u.nlri == 0)) ≡ None
+unfolding judge
+judge_section-judge w body u e parts = elim (cases_Bool (lengths_fit body)) [
+  | inl fit ↦
+      let judged : judge_parts w (update_parts body) ≡ None = rw fit at e in
+      let some : Some (update_parts body) ≡ Some u = rw fit at parts in
+      let same : update_parts body ≡ u = cc some in
+      let mine : judge_parts w u ≡ None = ap (judge_parts w) (sym same) ∙ judged in
+      (or_else_none _ _ (or_else_none _ _ mine).1).0
+  | inr not_fit ↦ let no : None ≡ Some u = rw not_fit at parts in absurd (cc no)
+]
 
 -- no attribute of a section without fault is malformed
 pub IsFaultless-route_of : (w : ℕ) (s : List ℕ) (announces : Bool) → judge_section w s announces ≡ None
