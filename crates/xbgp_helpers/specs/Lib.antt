@@ -1,0 +1,4 @@
+pub mod Worlds
+pub mod Memories
+pub mod Helping
+pub mod Shows
