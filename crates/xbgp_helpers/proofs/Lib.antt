@@ -1,0 +1,2 @@
+pub mod AttributesLemmas
+pub mod MapsLemmas
