@@ -2,3 +2,4 @@ pub mod Worlds
 pub mod Memories
 pub mod Helping
 pub mod Shows
+pub mod Changes
