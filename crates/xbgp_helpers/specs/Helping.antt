@@ -68,8 +68,8 @@ set_attr route code flags src n memory = do
   _ ← when (nat_lt code 256 && nat_lt flags 256)
   value ← octets_at memory src n
   Some (if is_some (attr_fault as_width code flags value)
-    then (MINUS_1, route)
-    else fitting route (with_attribute route code flags value))
+      then (MINUS_1, route)
+      else fitting route (with_attribute route code flags value))
 
 -- the codes that every announced route has: ORIGIN, AS_PATH and NEXT_HOP (RFC 4271, section 5)
 abbrev pub is_mandatory : ℕ → Bool
@@ -80,8 +80,8 @@ abbrev pub del_attr : Route → ℕ → Given Route
 del_attr route code = do
   _ ← when (nat_lt code 256)
   Some (if is_mandatory code || is_none (attribute_at route code)
-    then (MINUS_1, route)
-    else (0, without_attribute route code))
+      then (MINUS_1, route)
+      else (0, without_attribute route code))
 
 -- a code and its flags in one number; -1 if there is none
 abbrev pub code_and_flags : Option (ℕ × Attribute) → ℕ

@@ -33,7 +33,13 @@ fn copy_attr<R: RouteView>(view: &R, code: u8, dst: u64, room: u64, memory: &mut
 }
 
 // Copies an attribute of one route.
-fn get_attr_of<R: RouteView>(view: &R, code: u64, dst: u64, room: u64, memory: &mut Memory<'_>) -> Option<u64>
+fn get_attr_of<R: RouteView>(
+    view: &R,
+    code: u64,
+    dst: u64,
+    room: u64,
+    memory: &mut Memory<'_>,
+) -> Option<u64>
     ensures value { result ≡ value_of (get_attr (R.route view.now) None 0 code dst room memory.old) }
     ensures memory { memory.new ≡ part_after memory.old (get_attr (R.route view.now) None 0 code dst room memory.old) }
     ensures window { memory.new.window ≡ memory.old.window }
@@ -102,7 +108,11 @@ pub(crate) fn del_attr(route: &mut Overlay, code: u64) -> Option<u64>
     if ORIGIN <= code && code <= NEXT_HOP {
         return Some(MINUS_1);
     }
-    if route.unset(code) { Some(0) } else { Some(MINUS_1) }
+    if route.unset(code) {
+        Some(0)
+    } else {
+        Some(MINUS_1)
+    }
 }
 
 // The least code of one route that is at least `from`, with its flags.

@@ -35,7 +35,13 @@ pub(crate) fn get_peer(peer: &Side, local: &Side, field: u64) -> Option<u64>
 }
 
 /// Helper 7: a field of the source of a route.
-pub(crate) fn get_source(source: &Side, other: &Side, local: &Side, which: u64, field: u64) -> Option<u64>
+pub(crate) fn get_source(
+    source: &Side,
+    other: &Side,
+    local: &Side,
+    which: u64,
+    field: u64,
+) -> Option<u64>
     ensures { result ≡ get_source source.now other.now local.now which field }
 {
     when(which < 2 && field < FIELDS)?;
