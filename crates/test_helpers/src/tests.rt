@@ -116,9 +116,12 @@ fn run_at(ground: &mut Ground, point: Point, code: &Code) -> End
         Point::Outbound => run_at_outbound(
             code, FUEL, room, &SECOND, &FIRST, *prefix, &best, route, &LOCAL, maps,
         ),
-        Point::Encode => run_at_encode(
-            code, FUEL, room, &SECOND, &FIRST, &best, route, buffer, &LOCAL, maps,
-        ),
+        Point::Encode => {
+            buffer.clear();
+            run_at_encode(
+                code, FUEL, room, &SECOND, &FIRST, &best, route, buffer, &LOCAL, maps,
+            )
+        }
     }
 }
 
