@@ -1,0 +1,9 @@
+pub mod Carry
+pub mod Speakers
+pub mod Choosing
+pub mod Turns
+pub mod Events
+pub mod Reports
+pub mod Readers
+pub mod Playing
+pub mod Laws
