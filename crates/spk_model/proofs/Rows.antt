@@ -38,9 +38,12 @@ use Rattle.spk_model.specs.Turning.{control, act, react, emit_turns, emit, refus
 abbrev pub peers_from : ℕ → List Prefix → Config
 peers_from first networks = record {
   local = record { number = 0; asn = 65000; address = 3221226238; id = 3221226238; kind = 0 };
-  hold = 90; local_pref = 100; networks = networks;
+  hold = 90;
+  local_pref = 100;
+  networks = networks;
   peers = record { asn = first; address = 3221225985 } ∷ record { asn = 65002; address = 3221225986 } ∷ record { asn = 65003; address = 3221225987 } ∷ [];
-  costs = [] }
+  costs = [];
+}
 
 abbrev pub three_peers : List Prefix → Config
 three_peers networks = peers_from 65001 networks

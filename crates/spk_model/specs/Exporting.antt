@@ -44,7 +44,8 @@ encoded_for manifest local engine peer wide source best route trace =
     record {
       section = short_enough (wire (section_or (given_section c) (native_section route)) wide);
       engine = c.engine;
-      trace = trace ++ (Encode, c.outcome) ∷ [] }
+      trace = trace ++ (Encode, c.outcome) ∷ [];
+    }
 
 -- what a best route becomes for a peer, of whose session the form is given: it is carried over, passes outbound and
 -- then encode

@@ -44,7 +44,7 @@ drained_lines s = flat_map (λ p. if is_drained s p then drained_line p else [])
 abbrev pub map_lines : Manifest → Speaker → List ℕ
 map_lines manifest s =
     flat_map (λ m. flat_map (λ e. map_line (m.0).name e.0 e.1) (m.1).entries)
-      (zip manifest.maps ((s.routing).engine).maps)
+    (zip manifest.maps ((s.routing).engine).maps)
 
 -- what is read of a program that is not in the manifest
 abbrev pub no_program : ProgramEntry
@@ -54,7 +54,7 @@ no_program = record { name = []; point = Receive; fuel = 0; code = [] }
 abbrev pub fault_lines : Manifest → Speaker → List ℕ
 fault_lines manifest s =
     flat_map (λ f. let p = slice_index_or manifest.programs f.0 no_program in fault_line p.name p.point f.1)
-      ((s.routing).engine).faults
+    ((s.routing).engine).faults
 
 -- the tables of a speaker
 abbrev pub table_lines : Manifest → Speaker → List ℕ

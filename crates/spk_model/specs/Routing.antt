@@ -120,7 +120,8 @@ module _ (setup : Setup) (sessions : List Owned) where
   candidate p route = record {
     route = route;
     side = side p;
-    rank = rank route (side p) (setup.config).local_pref (cost_of setup.config (next_hop route)) }
+    rank = rank route (side p) (setup.config).local_pref (cost_of setup.config (next_hop route));
+  }
 
   -- the route of a local network
   abbrev pub local_candidates : Prefix → List Candidate
@@ -132,7 +133,7 @@ module _ (setup : Setup) (sessions : List Owned) where
   candidates t prefix =
       local_candidates prefix
       ++ filter_map (λ p. option_map (candidate p) (value_at prefix_cmp (at_tables t p).adjin prefix))
-        (peer_numbers sessions)
+      (peer_numbers sessions)
 
   -- the choice among some candidates is the best route; no candidate, no best route
   abbrev pub decided : Routed → Prefix → List Candidate → Routed
@@ -156,8 +157,8 @@ module _ (setup : Setup) (sessions : List Owned) where
   export_best t p prefix None = set_adv t p prefix None
   export_best t p prefix (Some best) =
       advertise t p prefix
-        (exported setup.manifest local (setup.config).local_pref (t.routing).engine (side p) (is_wide sessions p)
-          (side best.source) prefix best.route)
+      (exported setup.manifest local (setup.config).local_pref (t.routing).engine (side p) (is_wide sessions p)
+      (side best.source) prefix best.route)
 
   -- a prefix is exported to a peer, if its session is Established
   unfoldable pub export : Prefix → Routed → ℕ → Routed

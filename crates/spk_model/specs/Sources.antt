@@ -61,7 +61,8 @@ side_of config sessions p =
       asn = (entry_of config p).asn;
       address = (entry_of config p).address;
       id = ((session_of sessions p).session).id;
-      kind = kind_of_peer (config.local).asn (entry_of config p).asn }
+      kind = kind_of_peer (config.local).asn (entry_of config p).asn;
+    }
 
 -- the route of a local network: ORIGIN 0, an empty path, and the local address as next hop (this project's own)
 abbrev pub local_route : Config → Route

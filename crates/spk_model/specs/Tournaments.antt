@@ -51,7 +51,8 @@ module _ (manifest : Manifest) (local : Side) (prefix : Prefix) where
         champion = (if wins then new else m.champion);
         by_program = m.by_program || is_verdict c.outcome;
         engine = c.engine;
-        trace = m.trace ++ (Decision, c.outcome) ∷ [] }
+        trace = m.trace ++ (Decision, c.outcome) ∷ [];
+      }
 
   -- the champion meets the others in turn, of which the first is at an index
   abbrev pub meet_all : Match → ℕ → List Candidate → Match
@@ -63,7 +64,8 @@ abbrev pub chosen : List Candidate → Match → Choice
 chosen candidates m = record {
   index = (if m.by_program then m.index else survivor (map (λ c. c.rank) candidates));
   engine = m.engine;
-  trace = m.trace }
+  trace = m.trace;
+}
 
 -- the choice among candidates by rising source number
 unfoldable pub choose : Manifest → Side → Engine → Prefix → List Candidate → Choice

@@ -117,7 +117,7 @@ module _ (setup : Setup) where
   unfoldable pub act : ℕ → List ℕ → Turn → Act → Turn
   act p extra t acts.SendOpen =
       control t p
-        (wide_open_message ((setup.config).local).asn (setup.config).hold ((setup.config).local).id)
+      (wide_open_message ((setup.config).local).asn (setup.config).hold ((setup.config).local).id)
   act p extra t acts.SendKeepalive = control t p keepalive_message
   act p extra t (acts.SendNotice code subcode) = control t p (notice_message code subcode extra)
   act p extra t acts.Up =
@@ -190,7 +190,7 @@ module _ (setup : Setup) where
   take_turns zero t p = t
   take_turns (suc turns) t p =
       when_true (is_live (state_of t p))
-        (λ u. front_in (λ v. take_turns turns v p) u p (message_size (wait_of u p)) (front_fault (wait_of u p))) t
+      (λ u. front_in (λ v. take_turns turns v p) u p (message_size (wait_of u p)) (front_fault (wait_of u p))) t
 
   -- octets came: all messages that are whole are taken, each of which has at least one octet; octets for a session that
   -- is not live are dropped
@@ -296,7 +296,7 @@ unfoldable pub emit_turns : Packing → ℕ → Turn → ℕ → Option ℕ → 
 emit_turns rule zero t p limit = t
 emit_turns rule (suc turns) t p limit =
     unless_spent (is_spent limit)
-      (λ u. rest_or_form rule (λ v l. emit_turns rule turns v p l) u p limit (nat_lt 0 (length (rest_of u p)))) t
+    (λ u. rest_or_form rule (λ v l. emit_turns rule turns v p l) u p limit (nat_lt 0 (length (rest_of u p)))) t
 
 -- what is left and what is pending leaves for an Established peer, up to a limit; each formed message tells at least one
 -- pending prefix and takes two steps
@@ -324,7 +324,7 @@ turn rule setup t (room p k) = emit rule t p (Some k)
 turn rule setup t (drain p) = emit rule t p None
 turn rule setup t rescan =
     with_routes t
-      (settle_all setup (t.speaker).sessions (routed t) (known_prefixes setup (t.speaker).routing))
+    (settle_all setup (t.speaker).sessions (routed t) (known_prefixes setup (t.speaker).routing))
 
 -- a speaker before an event
 abbrev pub before : Speaker → Turn
@@ -357,10 +357,11 @@ history rule setup s (e ∷ es) =
 abbrev pub start_routing : Setup → Routing
 start_routing setup = record {
   best =
-    fold (λ b p. with_value prefix_cmp b p (record { source = 0; route = local_route setup.config })) []
+      fold (λ b p. with_value prefix_cmp b p (record { source = 0; route = local_route setup.config })) []
       (setup.config).networks;
   engine = record { maps = empty_maps (entry_shapes (setup.manifest).maps); faults = [] };
-  tables = map (λ _. no_tables) (setup.config).peers }
+  tables = map (λ _. no_tables) (setup.config).peers;
+}
 
 -- the speaker at the start: the clock is 0, all sessions are Idle, and nothing waits
 abbrev pub start_of : Setup → Speaker
@@ -369,4 +370,5 @@ start_of setup = record {
   sessions = map (λ _. record { own = (setup.config).hold; session = start_session }) (setup.config).peers;
   rests = map (λ _. []) (setup.config).peers;
   waits = map (λ _. []) (setup.config).peers;
-  routing = start_routing setup }
+  routing = start_routing setup;
+}
