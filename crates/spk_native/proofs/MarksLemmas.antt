@@ -49,7 +49,8 @@ apart a b above = elim (eqb_tells a b) [
 ]
 
 -- entries above a code stay
-marked_at-above : (code : ℕ) (r : Route) → AllByRecursion (λ x. nat_cmp code x ≡ Less) (keys_of r) → marked_at code r ≡ r
+marked_at-above : (code : ℕ) (r : Route) → AllByRecursion (λ x. nat_cmp code x ≡ Less) (keys_of r)
+    → marked_at code r ≡ r
 marked_at-above code [] all = refl
 marked_at-above code (e ∷ r) all =
     ap (λ b. (if b then marked_partial e else e) ∷ marked_at code r) (apart e.0 code (lt-nat_cmp code e.0 all.0))
@@ -146,7 +147,8 @@ marked_at-marked_below (x ∷ r) from code rising e = elim (cases_Bool (nat_lt x
       let above : AllByRecursion (λ k. nat_cmp code k ≡ Less) (keys_of r) =
       subst (λ c. AllByRecursion (λ k. nat_cmp c k ≡ Less) (keys_of r)) (sym same) rising.0 in
       ap (λ b. marked_at code ((if b then marked_partial x else x) ∷ marked_below from r)) here
-      ∙ ap (λ b. (if b then marked_partial x else x) ∷ marked_at code (marked_below from r)) (eq-eqb x.0 code (sym same))
+      ∙ ap (λ b. (if b then marked_partial x else x) ∷ marked_at code (marked_below from r))
+      (eq-eqb x.0 code (sym same))
       ∙ ap (λ (l : Route). marked_partial x ∷ marked_at code l)
       (marked_below-above from code r (omega (arith, same, ltb-false x.0 from here)) above)
       ∙ ap (λ (l : Route). marked_partial x ∷ l)
@@ -280,7 +282,8 @@ kept_flags-partial f kept =
 
 pub marked_at-some : (code : ℕ) (r : Route) (a : Attribute) → IsStrictlySortedBy nat_cmp (keys_of r)
     → attribute_at r code ≡ Some a → kept_flags a.flags ≡ a.flags → is_known code ≡ false → is_transitive a.flags ≡ true
-    → with_value nat_cmp r code (record { flags = kept_flags (bit_or a.flags PARTIAL); value = a.value }) ≡ marked_at code r
+    → with_value nat_cmp r code (record { flags = kept_flags (bit_or a.flags PARTIAL); value = a.value })
+    ≡ marked_at code r
 marked_at-some code r a rising there kept other transitive =
     let marked : marked_partial (code, a) ≡ (code, record { flags = bit_or a.flags PARTIAL; value = a.value }) =
     rw (other, transitive) refl in
@@ -295,7 +298,8 @@ length-canonical-marked e =
     ∙ ap (λ (v : List ℕ). (if nat_lt 255 (length v) then 4 else 3) + length v) (value-marked_partial e)
     ∙ sym (length-canonical e)
 
-length-canon-map : (f : ℕ × Attribute → ℕ × Attribute) → ((e : ℕ × Attribute) → length (canonical (f e)) ≡ length (canonical e))
+length-canon-map : (f : ℕ × Attribute → ℕ × Attribute)
+    → ((e : ℕ × Attribute) → length (canonical (f e)) ≡ length (canonical e))
     → (r : Route) → length (canon (map f r)) ≡ length (canon r)
 length-canon-map f same [] = refl
 length-canon-map f same (e ∷ r) = omega (
@@ -312,7 +316,11 @@ length-canon-marked r = length-canon-map marked_partial length-canonical-marked 
 length-canon-marked_at : (code : ℕ) (r : Route) → length (canon (marked_at code r)) ≡ length (canon r)
 length-canon-marked_at code r =
     length-canon-map (λ e. if e.0 == code then marked_partial e else e)
-    (λ e. elim (cases_Bool (e.0 == code)) [ inl here ↦ rw here (length-canonical-marked e) | inr other ↦ rw other refl ]) r
+    (λ e. elim (cases_Bool (e.0 == code)) [
+      | inl here ↦ rw here (length-canonical-marked e)
+      | inr other ↦ rw other refl
+    ])
+    r
 
 -- an attribute that is set with the flag is marked, and there is room for it
 pub record IsMarkSet (r : Route) (code flags : ℕ) (value : List ℕ) : Type 0 where
