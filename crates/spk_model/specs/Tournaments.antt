@@ -52,19 +52,21 @@ pub record IsMeeting (before after : Kept) (prefix : Prefix) (old new : Candidat
   pub manifest : after.manifest ≡ before.manifest
   pub local : after.local ≡ before.local
 
+-- a match after the champion met the candidate at an index, by what the programs gave
+abbrev pub after_meeting : Match → ℕ → Candidate → Called → Match
+after_meeting m index new c =
+    let wins = is_new_preferred c.outcome m.champion new in
+    record {
+      index = (if wins then index else m.index);
+      champion = (if wins then new else m.champion);
+      by_program = m.by_program || is_verdict c.outcome;
+      engine = c.engine;
+      trace = m.trace ++ (Decision, c.outcome) ∷ [] }
+
 module _ (manifest : Manifest) (local : Side) (prefix : Prefix) where
   -- the champion meets the candidate at an index
   abbrev pub meet : Match → ℕ → Candidate → Match
-  meet m index new =
-      let c = meeting manifest local m.engine prefix m.champion new in
-      let wins = is_new_preferred c.outcome m.champion new in
-      record {
-        index = (if wins then index else m.index);
-        champion = (if wins then new else m.champion);
-        by_program = m.by_program || is_verdict c.outcome;
-        engine = c.engine;
-        trace = m.trace ++ (Decision, c.outcome) ∷ [];
-      }
+  meet m index new = after_meeting m index new (meeting manifest local m.engine prefix m.champion new)
 
   -- the champion meets the others in turn, of which the first is at an index
   abbrev pub meet_all : Match → ℕ → List Candidate → Match

@@ -14,7 +14,6 @@ use xb_values::Prefix;
 use xbgp_points::{Engine, Outcome};
 
 // Whether the native decision prefers the second of two candidates.
-#[tactic(auto, using(crate::proofs::TournamentLemmas::two_apart))]
 fn is_second_better<F: Field>(field: &F, old: usize, new: usize) -> bool
     requires apart { AreRivals (F.candidates field.now) }
     requires order { old < new }
