@@ -1,10 +1,10 @@
 -- Candidates and their ranks, and a tournament from any match on.
-use Rattle.std.proofs.Common.{◌≡◌, ◌≢◌, refl, sym, ap, ◌∙◌, absurd, ℕ, ◌+◌, ◌<◌, ◌≤◌, suc, Bool, true, false}
+use Rattle.std.proofs.Common.{◌≡◌, ◌≢◌, refl, sym, ap, ◌∙◌, ℕ, ◌+◌, ◌<◌, ◌≤◌, suc, Bool, true, false}
 use Rattle.std.proofs.Common.{List, [], ◌∷◌, ◌++◌, length, map, get_or, take, drop, arith, add-one, nat_eq}
 use Rattle.std.specs.Prelude.{IfSome, if◌then◌else◌, ◌||◌}
-use Rattle.std.proofs.Math.ListN.{set, length-map, map-append}
-use Rattle.std.proofs.Math.Seq.{drop-cons, take-suc}
-use Rattle.std.proofs.lemmas.List.{get_or-map, drop_all, get_or_default, take_more_set}
+use Rattle.std.proofs.Math.ListN.{set, length-map}
+use Rattle.std.proofs.Math.Seq.{drop-cons, take-suc, take-length}
+use Rattle.std.proofs.lemmas.List.{get_or-map, map-append, drop_all, get_or_default, take_more_set}
 use Rattle.std.proofs.lemmas.Option.{slice_get-get_or}
 use Rattle.std.specs.List.{slice_get}
 use Rattle.xb_domain.specs.declared.side.Side.{Side}
@@ -35,7 +35,7 @@ two_apart a b differ i j d before within =
 pub AreApart-ranks : (cs : List Candidate) → AreRivals cs → AreApart (map rank_of cs)
 AreApart-ranks [] rivals i j d before within = absurd (omega (arith, within))
 AreApart-ranks (c ∷ cs) rivals i j d before within =
-    let l : length (map rank_of (c ∷ cs)) ≡ length (c ∷ cs) = length-map rank_of (c ∷ cs) in
+    let l : length (map rank_of (c ∷ cs)) ≡ length (c ∷ cs) = length-map (c ∷ cs) rank_of in
     let w : j < length (c ∷ cs) = omega (arith, within, l) in
     rw (get_or-map rank_of (c ∷ cs) i c d (omega arith), get_or-map rank_of (c ∷ cs) j c d w) (rivals i j c before w)
 
@@ -60,33 +60,54 @@ pub second_better : (cs : List Candidate) (i j n : ℕ) (r q : Rank) (d : Candid
 second_better cs i j n r q d before within p s given =
     let e = rank_at cs i d r (omega arith) p in
     let f = rank_at cs j d q within s in
-    ap (λ (m : ℕ). nat_eq m 1) (given ∙ ap (λ (x : Rank). survivor (x ∷ q ∷ [])) e ∙ ap (λ (x : Rank). survivor ((get_or cs i d).rank ∷ x ∷ [])) f)
+    let first = ap (λ (x : Rank). survivor (x ∷ q ∷ [])) e in
+    let both = first ∙ ap (λ (x : Rank). survivor ((get_or cs i d).rank ∷ x ∷ [])) f in
+    ap (λ (m : ℕ). nat_eq m 1) (given ∙ both)
 
 -- one more rank is copied
+one_more : (ranks : List Rank) (cs : List Candidate) (i : ℕ) (r : Rank) (d : Candidate) → i < length cs
+    → i < length ranks → r ≡ (get_or cs i d).rank → take i ranks ≡ map rank_of (take i cs)
+    → take (i + 1) (set ranks i r) ≡ map rank_of (take (i + 1) cs)
+one_more ranks cs i r d within room is so_far =
+    let more : map rank_of (take (i + 1) cs) ≡ map rank_of (take i cs) ++ (get_or cs i d).rank ∷ [] =
+    rw (add-one, take-suc cs i d within) (map-append rank_of (take i cs) (get_or cs i d ∷ [])) in
+    take_more_set ranks i r room ∙ rw (so_far, is) (sym more)
+
+-- the same of a rank that a field gives
 pub ranks_more : (ranks : List Rank) (cs : List Candidate) (i : ℕ) (r : Rank) → i < length cs → i < length ranks
     → IfSome (slice_get cs i) (λ c. r ≡ c.rank) → take i ranks ≡ map rank_of (take i cs)
     → take (i + 1) (set ranks i r) ≡ map rank_of (take (i + 1) cs)
 ranks_more ranks [] i r within room p so_far = absurd (omega (arith, within))
 ranks_more ranks (c ∷ cs) i r within room p so_far =
-    let e = rank_at (c ∷ cs) i c r within p in
-    let t = take-suc (c ∷ cs) i c within in
-    let more : map rank_of (take (i + 1) (c ∷ cs)) ≡ map rank_of (take i (c ∷ cs)) ++ (get_or (c ∷ cs) i c).rank ∷ [] =
-      rw (add-one, t) (map-append rank_of (take i (c ∷ cs)) (get_or (c ∷ cs) i c ∷ [])) in
-    take_more_set ranks i r room ∙ rw (so_far, e) (sym more)
+    one_more ranks (c ∷ cs) i r c within room (rank_at (c ∷ cs) i c r within p) so_far
+
+-- all ranks are copied
+pub ranks_filled : (ranks : List Rank) (cs : List Candidate) (i n : ℕ) → n ≡ length cs → i ≡ n
+    → take i ranks ≡ map rank_of (take i cs) → take n ranks ≡ map rank_of cs
+ranks_filled ranks cs i n all here so_far =
+    let whole : take i cs ≡ cs = rw (here, all) (take-length cs) in
+    rw (← here) (so_far ∙ ap (map rank_of) whole)
 
 -- before the first meeting
-pub choose-first : (m : Manifest) (local : Side) (prefix : Prefix) (e : Engine) (first : Candidate) (others : List Candidate)
-    → choose m local e prefix (first ∷ others) ≡ chosen (first ∷ others) (meet_all m local prefix (first_match e first) 1 others)
+pub choose-first : (m : Manifest) (local : Side) (prefix : Prefix) (e : Engine) (first : Candidate)
+    (others : List Candidate)
+    → choose m local e prefix (first ∷ others)
+    ≡ chosen (first ∷ others) (meet_all m local prefix (first_match e first) 1 others)
 unfolding choose
 choose-first m local prefix e first others = refl
 
 -- the next meeting
-pub meet_all-next : (m : Manifest) (local : Side) (prefix : Prefix) (k : Match) (i : ℕ) (cs : List Candidate) (d : Candidate) → i < length cs
-    → meet_all m local prefix k i (drop i cs) ≡ meet_all m local prefix (meet m local prefix k i (get_or cs i d)) (i + 1) (drop (i + 1) cs)
-meet_all-next m local prefix k i cs d within = rw (drop-cons cs i d within, add-one) refl
+pub meet_all-next : (m : Manifest) (local : Side) (prefix : Prefix) (k : Match) (i : ℕ)
+    (cs : List Candidate) (d : Candidate) → i < length cs
+    → meet_all m local prefix k i (drop i cs)
+    ≡ meet_all m local prefix (meet m local prefix k i (get_or cs i d)) (i + 1) (drop (i + 1) cs)
+meet_all-next m local prefix k i cs d within = rw (drop-cons cs i d within)
+    (ap (λ (n : ℕ). meet_all m local prefix (meet m local prefix k i (get_or cs i d)) (i + 1) (drop n cs))
+    (sym (add-one i)))
 
 -- after the last meeting
-pub meet_all-end : (m : Manifest) (local : Side) (prefix : Prefix) (k : Match) (i : ℕ) (cs : List Candidate) → length cs ≤ i
+pub meet_all-end : (m : Manifest) (local : Side) (prefix : Prefix) (k : Match) (i : ℕ)
+    (cs : List Candidate) → length cs ≤ i
     → meet_all m local prefix k i (drop i cs) ≡ k
 meet_all-end m local prefix k i cs over = rw (drop_all i cs over) refl
 
@@ -110,7 +131,8 @@ comes_first m local e prefix (first ∷ others) some = record {
   best = λ d. refl;
   program = refl;
   engine = refl;
-  rest = choose-first m local prefix e first others }
+  rest = choose-first m local prefix e first others;
+}
 
 -- the candidate at the index of the winner
 winner_at : (cs : List Candidate) (i champion next : ℕ) (wins : Bool) (x y d : Candidate)
@@ -120,17 +142,18 @@ winner_at cs i champion next true x y d e p q = p ∙ ap (λ (n : ℕ). get_or c
 winner_at cs i champion next false x y d e p q = q ∙ ap (λ (n : ℕ). get_or cs n d) (sym e)
 
 -- it goes on
-pub comes_next : (m : Manifest) (local : Side) (e : Engine) (prefix : Prefix) (cs : List Candidate) (i champion next : ℕ)
-    (by_program said wins : Bool) (before after : Kept) (given : Outcome)
+pub comes_next : (m : Manifest) (local : Side) (e : Engine) (prefix : Prefix) (cs : List Candidate)
+    (i champion next : ℕ) (by_program said wins : Bool) (before after : Kept) (given : Outcome)
     → Comes m local e prefix cs i champion by_program before.engine → before.manifest ≡ m → before.local ≡ local
     → i < length cs → champion < length cs
     → ((d : Candidate) → IsMeeting before after prefix (get_or cs champion d) (get_or cs i d) given)
     → ((d : Candidate) → wins ≡ is_new_preferred given (get_or cs champion d) (get_or cs i d))
     → next ≡ (if wins then i else champion) → said ≡ by_program || is_verdict given
     → Comes m local e prefix cs (i + 1) next said after.engine
-comes_next m local e prefix [] i champion next by_program said wins before after given k of_manifest of_local within in_too ran won went tells =
-    absurd (omega (arith, within))
-comes_next m local e prefix (first ∷ others) i champion next by_program said wins before after given k of_manifest of_local within in_too ran won went tells =
+comes_next m local e prefix [] i champion next by_program said wins before after given
+    k of_manifest of_local within in_too ran won went tells = absurd (omega (arith, within))
+comes_next m local e prefix (first ∷ others) i champion next by_program said wins before after given
+    k of_manifest of_local within in_too ran won went tells =
     let cs = first ∷ others in
     let old = get_or cs champion first in
     let new = get_or cs i first in
@@ -144,16 +167,18 @@ comes_next m local e prefix (first ∷ others) i champion next by_program said w
       so_far = after_meeting k.so_far i new c;
       index = rw (w, k.index) (sym went);
       best = λ d. rw w
-        (winner_at cs i champion next wins new (k.so_far).champion d went (get_or_default cs i first d within) (k.best d));
+          (winner_at cs i champion next wins new (k.so_far).champion d went
+          (get_or_default cs i first d within) (k.best d));
       program = rw (o, k.program) (sym tells);
       engine = after_is;
-      rest = k.rest ∙ ap (chosen cs) (meet_all-next m local prefix k.so_far i cs first within) }
+      rest = k.rest ∙ ap (chosen cs) (meet_all-next m local prefix k.so_far i cs first within);
+    }
 
 -- it ends
 pub comes_last : (m : Manifest) (local : Side) (e : Engine) (prefix : Prefix) (cs : List Candidate) (i champion : ℕ)
     (by_program : Bool) (now : Engine) → Comes m local e prefix cs i champion by_program now → length cs ≤ i
     → ((choose m local e prefix cs).index ≡ (if by_program then champion else survivor (map rank_of cs)))
-      × ((choose m local e prefix cs).engine ≡ now)
+    × ((choose m local e prefix cs).engine ≡ now)
 comes_last m local e prefix cs i champion by_program now k over =
     let r = k.rest ∙ ap (chosen cs) (meet_all-end m local prefix k.so_far i cs over) in
     (ap (λ (c : Choice). c.index) r ∙ rw (k.program, k.index) refl, ap (λ (c : Choice). c.engine) r ∙ k.engine)

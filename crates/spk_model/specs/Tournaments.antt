@@ -49,8 +49,6 @@ meeting manifest local engine prefix old new = prefer manifest local engine pref
 pub record IsMeeting (before after : Kept) (prefix : Prefix) (old new : Candidate) (given : Outcome) : Type 0 where
   pub outcome : given ≡ (meeting before.manifest before.local before.engine prefix old new).outcome
   pub engine : after.engine ≡ (meeting before.manifest before.local before.engine prefix old new).engine
-  pub manifest : after.manifest ≡ before.manifest
-  pub local : after.local ≡ before.local
 
 -- a match after the champion met the candidate at an index, by what the programs gave
 abbrev pub after_meeting : Match → ℕ → Candidate → Called → Match
@@ -61,7 +59,8 @@ after_meeting m index new c =
       champion = (if wins then new else m.champion);
       by_program = m.by_program || is_verdict c.outcome;
       engine = c.engine;
-      trace = m.trace ++ (Decision, c.outcome) ∷ [] }
+      trace = m.trace ++ (Decision, c.outcome) ∷ [];
+    }
 
 module _ (manifest : Manifest) (local : Side) (prefix : Prefix) where
   -- the champion meets the candidate at an index

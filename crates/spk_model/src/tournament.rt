@@ -49,10 +49,17 @@ fn is_new_preferred<F: Field>(outcome: Outcome, field: &F, old: usize, new: usiz
 fn meet<F: Field>(engine: &mut Engine, prefix: Prefix, field: &F, old: usize, new: usize) -> Outcome
     requires order { old < new }
     requires within { new < length (F.candidates field.now) }
-    ensures { (d : Candidate) → IsMeeting engine.old engine.new prefix
+    ensures ran { (d : Candidate) → IsMeeting engine.old engine.new prefix
         (slice_index_or (F.candidates field.now) old d) (slice_index_or (F.candidates field.now) new d) result }
+    ensures same { (engine.new.manifest ≡ engine.old.manifest) × (engine.new.local ≡ engine.old.local) }
 {
-    engine.prefer(prefix, field.view(old), field.side(old), field.view(new), field.side(new))
+    engine.prefer(
+        prefix,
+        field.view(old),
+        field.side(old),
+        field.view(new),
+        field.side(new),
+    )
 }
 
 // The index of the best candidate by the native decision of all.
@@ -91,5 +98,9 @@ pub fn choose<F: Field>(engine: &mut Engine, prefix: Prefix, field: &F) -> usize
             champion = i;
         }
     }
-    if by_program { champion } else { best_of_all(field) }
+    if by_program {
+        champion
+    } else {
+        best_of_all(field)
+    }
 }

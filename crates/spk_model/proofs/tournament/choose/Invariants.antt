@@ -8,4 +8,5 @@ invariant-loop-i g l = record {
   manifest : l.engine.manifest ≡ l.fn.engine.manifest;
   local : l.engine.local ≡ l.fn.engine.local;
   comes : Comes l.fn.engine.manifest l.fn.engine.local l.fn.engine.engine l.fn.prefix (g.F.Field.candidates l.fn.field)
-    l.i l.champion l.by_program l.engine.engine }
+      l.i l.champion l.by_program l.engine.engine;
+}
