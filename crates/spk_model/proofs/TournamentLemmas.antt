@@ -1,5 +1,5 @@
 -- Candidates and their ranks, and a tournament from any match on.
-use Rattle.std.proofs.Common.{◌≡◌, ◌≢◌, refl, sym, ap, ◌∙◌, ℕ, ◌+◌, ◌<◌, ◌≤◌, suc, Bool, true, false}
+use Rattle.std.proofs.Common.{◌≡◌, ◌≢◌, refl, sym, ap, ◌∙◌, ℕ, ◌+◌, ◌<◌, ◌≤◌, Bool, true, false}
 use Rattle.std.proofs.Common.{List, [], ◌∷◌, ◌++◌, length, map, get_or, take, drop, arith, add-one, nat_eq}
 use Rattle.std.specs.Prelude.{IfSome, if◌then◌else◌, ◌||◌}
 use Rattle.std.proofs.Math.ListN.{set, length-map}

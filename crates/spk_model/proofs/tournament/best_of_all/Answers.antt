@@ -1,4 +1,4 @@
-use Rattle.std.proofs.Common.{◌∙◌, refl, arith}
+use Rattle.std.proofs.Common.{arith}
 use Rattle.std.proofs.lemmas.List.{length-set}
 use Rattle.spk_model.proofs.TournamentLemmas.{ranks_more, ranks_filled, AreApart-ranks}
 use Rattle.spk_model.proofs.tournament.best_of_all.Goals as goal

@@ -1,7 +1,7 @@
-use Rattle.std.proofs.Common.{◌≡◌, refl, sym, ap, ◌∙◌, arith, ℕ, ◌+◌, ◌<◌, Bool, true, false}
+use Rattle.std.proofs.Common.{◌≡◌, refl, ◌∙◌, arith, ◌+◌, ◌<◌}
 use Rattle.std.specs.Prelude.{if◌then◌else◌, ◌||◌}
 use Rattle.spk_model.specs.Tournaments.{is_verdict}
-use Rattle.spk_model.proofs.TournamentLemmas.{comes_first, comes_next, comes_last}
+use Rattle.spk_model.proofs.TournamentLemmas.{comes_first, comes_next}
 use Rattle.spk_model.proofs.tournament.choose.Goals as goal
 use Rattle.spk_model.proofs.tournament.choose.Goals.{then-by_program, else-by_program}
 use Rattle.spk_model.proofs.tournament.choose.Goals.{then-is_new_preferred, else-is_new_preferred}

@@ -1,4 +1,4 @@
-use Rattle.std.proofs.Common.{◌≡◌, ◌<◌, ◌≤◌, length}
+use Rattle.std.proofs.Common.{◌≡◌, ◌<◌}
 use Rattle.spk_model.proofs.TournamentLemmas.{Comes}
 use Rattle.spk_model.proofs.tournament.choose.Given as goal
 
