@@ -7,3 +7,4 @@ pub mod Turning
 pub mod Reports
 pub mod Readers
 pub mod Playing
+pub mod Laws
