@@ -1,0 +1,4 @@
+pub mod AttributesLemmas
+pub mod MapsLemmas
+pub mod ChangesLemmas
+pub mod ShowsLemmas
