@@ -18,12 +18,12 @@ use Rattle.xbgp_helpers.specs.Helping.{Given, help, helped, says, writes_memory,
 use Rattle.xbgp_helpers.specs.Worlds.{World}
 
 -- a property of a choice
-by_test : {A : Type 0} (P : A → Type 0) (b : Bool) (x y : A) → (b ≡ true → P x) → (b ≡ false → P y) → P (if b then x else y)
+pub by_test : {A : Type 0} (P : A → Type 0) (b : Bool) (x y : A) → (b ≡ true → P x) → (b ≡ false → P y) → P (if b then x else y)
 by_test P true x y then_holds else_holds = then_holds refl
 by_test P false x y then_holds else_holds = else_holds refl
 
 -- a property of what follows a step that may give nothing
-by_step : {A B : Type 0} (P : Option B → Type 0) (o : Option A) (f : A → Option B) → P None → ((x : A) → P (f x)) → P (o >>= f)
+pub by_step : {A B : Type 0} (P : Option B → Type 0) (o : Option A) (f : A → Option B) → P None → ((x : A) → P (f x)) → P (o >>= f)
 by_step P None f none some = none
 by_step P (Some x) f none some = some x
 

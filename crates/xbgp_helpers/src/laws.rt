@@ -1,12 +1,15 @@
 //! Laws of the definitions. Each is the contract of a function that does nothing.
-ghost use Rattle.std.specs.Prelude.{◌≡◌, ℕ, List};
+ghost use Rattle.std.specs.Prelude.{◌≡◌, ◌≤◌, ℕ, List, Bool, true, length};
 ghost use Rattle.xb_domain.specs.declared.point.Point.{Point};
+ghost use Rattle.bgp_attr.specs.Routes.{Route};
 ghost use Rattle.bpf_mem.specs.Memory.{Memory};
 ghost use Rattle.bpf_machine.specs.Running.{bpf};
-ghost use Rattle.xbgp_helpers.specs.Changes.{IsEdited, changed_at};
+ghost use Rattle.xbgp_helpers.specs.Changes.{IsEdited, IsSet, IsUnset, changed_at};
 ghost use Rattle.xbgp_helpers.specs.Helping.{help};
 ghost use Rattle.xbgp_helpers.specs.Shows.{Shown, help_shown};
 ghost use Rattle.xbgp_helpers.specs.Worlds.{World};
+
+use crate::numbers::MAX_BUFFER;
 
 /// A call, and so a run, leaves each part of the world that programs may not change at that point.
 pub fn parts_are_kept()
@@ -21,6 +24,23 @@ pub fn parts_are_kept()
 pub fn routes_are_edited()
     ensures { (point : Point) (number : ℕ) (args : List ℕ) (memory : Memory) (w : World)
         → IsEdited w.route ((help point number args memory w).world).route }
+{}
+
+/// What setting and removing keep true of a route, a run keeps true. The lemma `bpf-keeps_route` is for any property.
+pub fn edits_keep()
+    ensures { (test : Route → Bool)
+        → ((old new : Route) → IsSet old new → test old ≡ true → test new ≡ true)
+        → ((old new : Route) → IsUnset old new → test old ≡ true → test new ≡ true)
+        → (point : Point) (code : List ℕ) (memory : Memory) (fuel : ℕ) (w : World) → test w.route ≡ true
+        → test ((bpf (help point) code memory fuel w).world).route ≡ true }
+{}
+
+/// A write buffer of at most `MAX_BUFFER` octets has no more after a call, and after a run.
+pub fn buffers_stay_short()
+    ensures call { (point : Point) (number : ℕ) (args : List ℕ) (memory : Memory) (w : World)
+        → length w.buffer ≤ MAX_BUFFER → length ((help point number args memory w).world).buffer ≤ MAX_BUFFER }
+    ensures run { (point : Point) (code : List ℕ) (memory : Memory) (fuel : ℕ) (w : World)
+        → length w.buffer ≤ MAX_BUFFER → length ((bpf (help point) code memory fuel w).world).buffer ≤ MAX_BUFFER }
 {}
 
 /// A run over what a world type shows does to the world what a run over the world alone does, and leaves the rest.
