@@ -8,7 +8,7 @@ use Rattle.std.specs.List.Sorted.{IsStrictlySortedBy}
 use Rattle.std.proofs.lemmas.Bool.{cases_Bool}
 use Rattle.std.specs.Prelude.{bit_and}
 use Rattle.std.proofs.lemmas.Nat.{and_assoc}
-use Rattle.std.proofs.Math.Option.{some-injective}
+use Rattle.std.specs.Option.{unwrap_or}
 use Rattle.bpf_mem.specs.Memory.{Memory}
 use Rattle.bgp_attr.specs.declared.flags.TheConstants.{KEPT, OPTIONAL}
 use Rattle.bgp_attr.specs.Routes.{IsRoute}
@@ -16,7 +16,7 @@ use Rattle.xb_domain.specs.declared.point.Point.{Point}
 use Rattle.xbgp_view.proofs.LowerLemmas.{eq-nat_cmp}
 use Rattle.xbgp_helpers.specs.Worlds.{World}
 use Rattle.xbgp_helpers.specs.Helping.{help}
-use Rattle.xbgp_helpers.proofs.ChangesLemmas.{help-edited}
+use Rattle.xbgp_helpers.proofs.RunsLemmas.{bpf-keeps_route}
 use Rattle.xbgp_manifest.specs.declared.entries.ProgramEntry.{ProgramEntry}
 use Rattle.xbgp_points.specs.Chains.{Faults, chain_from}
 use Rattle.xbgp_points.proofs.KeepLemmas.{chain-keeps}
@@ -30,7 +30,7 @@ use Rattle.xb_wire.specs.declared.numbers.TheConstants.{MAX_MESSAGE}
 use Rattle.xbgp_view.proofs.EditsLemmas.{kept_flags-kept_flags}
 use Rattle.spk_native.proofs.RebuildsLemmas.{at-without, at-set_if, rising-set_if, rising-without, length-without, is_eq-true}
 use Rattle.spk_native.specs.Values.{HasNoFault}
-use Rattle.xbgp_helpers.specs.Changes.{IsEdited, IsSet, IsUnset}
+use Rattle.xbgp_helpers.specs.Changes.{IsSet, IsUnset}
 use Rattle.xbgp_helpers.specs.Helping.{is_mandatory}
 use Rattle.xbgp_points.specs.Engines.{HasMandatory, KeepsRoute}
 
@@ -58,8 +58,8 @@ some-with false x a h = h
 
 -- a removal of another code leaves it
 some-without : (b : Bool) (x : Option Attribute) → b ≡ false → is_some x ≡ true → is_some (cond b None x) ≡ true
-some-without true x no h = absurd (cc no)
-some-without false x no h = h
+some-without true x other h = absurd (cc other)
+some-without false x other h = h
 
 -- what is left after a removal was there before
 was-there : (b : Bool) (x : Option Attribute) (a : Attribute) → cond b None x ≡ Some a → x ≡ Some a
@@ -70,10 +70,10 @@ was-there false x a e = e
 other-code : (code q : ℕ) → is_mandatory code ≡ false → is_mandatory q ≡ true → is_at (nat_cmp code) q ≡ false
 other-code code q free must =
     elim (cases_Bool (is_at (nat_cmp code) q)) [
-      | inl yes ↦
-          let same : code ≡ q = eq-nat_cmp code q (is_eq-true (nat_cmp code q) yes) in
+      | inl here ↦
+          let same : code ≡ q = eq-nat_cmp code q (is_eq-true (nat_cmp code q) here) in
           absurd (cc (sym must ∙ ap is_mandatory (sym same) ∙ free))
-      | inr no ↦ no
+      | inr other ↦ other
     ]
 
 -- an attribute that was set has no fault
@@ -85,7 +85,7 @@ module _ (code flags : ℕ) (value : List ℕ) (sound : attr_fault as_width code
       → (x ≡ Some a → attr_fault as_width q a.flags a.value ≡ None) → attr_fault as_width q a.flags a.value ≡ None
   set-faultless true x here e old =
       let same : code ≡ q = eq-nat_cmp code q (is_eq-true (nat_cmp code q) here) in
-      let is : set_one ≡ a = some-injective set_one a e in
+      let is : set_one ≡ a = ap (λ (o : Option Attribute). unwrap_or o set_one) e in
       ap (λ (b : Attribute). attr_fault as_width q b.flags b.value) (sym is)
       ∙ ap (λ c. attr_fault as_width c (kept_flags flags) value) (sym same)
       ∙ attr_fault-kept code flags value ∙ sound
@@ -129,21 +129,6 @@ keeps-unset r s rising h =
         omega (arith, less, was);
     }
 
--- what one call does to a route
-pub keeps-edit : (r s : Route) → IsRising r → IsEdited r s → KeepsRoute r s
-keeps-edit r s rising (inl same) = subst (λ (t : Route). KeepsRoute r t) (sym same) (keeps_same r)
-keeps-edit r s rising (inr (inl set)) = keeps-set r s set
-keeps-edit r s rising (inr (inr unset)) = keeps-unset r s rising unset
-
--- and its codes still rise
-pub rising-edit : (r s : Route) → IsRising r → IsEdited r s → IsRising s
-rising-edit r s rising (inl same) = subst (λ (t : Route). IsRising t) (sym same) rising
-rising-edit r s rising (inr (inl set)) =
-    subst (λ (t : Route). IsRising t) (sym set.after)
-      (rising-set_if r set.code (Some (record { flags = set.flags; value = set.value })) rising)
-rising-edit r s rising (inr (inr unset)) =
-    subst (λ (t : Route). IsRising t) (sym unset.after) (rising-without r unset.code rising)
-
 -- one edit after others
 keeps-then : (r s t : Route) → KeepsRoute r s → KeepsRoute s t → KeepsRoute r t
 keeps-then r s t a b = record {
@@ -152,20 +137,26 @@ keeps-then r s t a b = record {
   short = λ n. b.short (a.short n);
 }
 
--- the route of a world is one that a route became by edits
-abbrev IsFrom : Route → World → Type 0
-IsFrom r w = IsRising w.route × KeepsRoute r w.route
+-- a route that some route became by edits
+abbrev IsFrom : Route → Route → Type 0
+IsFrom r s = IsRising s × KeepsRoute r s
 
-call-keeps : (r : Route) (point : Point) (number : ℕ) (args : List ℕ) (m : Memory) (w : World) → IsFrom r w
-    → IsFrom r (help point number args m w).world
-call-keeps r point number args m w h =
-    let later = ((help point number args m w).world).route in
-    let edited = help-edited point number args m w in
-    (rising-edit w.route later h.0 edited, keeps-then r w.route later h.1 (keeps-edit w.route later h.0 edited))
+set-from : (r s t : Route) → IsSet s t → IsFrom r s → IsFrom r t
+set-from r s t set from =
+    let rising = rising-set_if s set.code (Some (record { flags = set.flags; value = set.value })) from.0 in
+    (subst (λ (u : Route). IsRising u) (sym set.after) rising, keeps-then r s t from.1 (keeps-set s t set))
+
+unset-from : (r s t : Route) → IsUnset s t → IsFrom r s → IsFrom r t
+unset-from r s t unset from =
+    let rising = rising-without s unset.code from.0 in
+    (subst (λ (u : Route). IsRising u) (sym unset.after) rising, keeps-then r s t from.1 (keeps-unset s t from.0 unset))
 
 -- what a chain makes of a route
-pub chain-keeps-route : (point : Point) (window : List ℕ) (noted : Faults) (ps : List (ℕ × ProgramEntry)) (w : World)
+pub chain-keeps_route : (point : Point) (window : List ℕ) (noted : Faults) (ps : List (ℕ × ProgramEntry)) (w : World)
     → IsRoute w.route → KeepsRoute w.route ((chain_from point window w noted ps w).world).route
-chain-keeps-route point window noted ps w route =
-    let start : IsFrom w.route w = (route.rising, keeps_same w.route) in
-    (chain-keeps point (IsFrom w.route) (call-keeps w.route point) (λ v h. h) window w noted ps w start start).1
+chain-keeps_route point window noted ps w route =
+    let start : IsFrom w.route w.route = (route.rising, keeps_same w.route) in
+    (chain-keeps point (λ (v : World). IsFrom w.route v.route)
+      (λ code m fuel v h.
+        bpf-keeps_route (IsFrom w.route) (set-from w.route) (unset-from w.route) point code m fuel v h)
+      (λ v h. h) window w noted ps w start start).1
