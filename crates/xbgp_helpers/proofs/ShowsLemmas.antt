@@ -9,12 +9,12 @@ use Rattle.xbgp_helpers.specs.Shows.{Shown, help_shown}
 use Rattle.xbgp_helpers.specs.Worlds.{World}
 
 -- a run does to the world what a run over the world alone does, and leaves the rest
-pub bpf-help_shown : (point : Point) (code : List ℕ) (memory : Memory) (fuel : ℕ) (shown : Shown)
+pub shown_run : (point : Point) (code : List ℕ) (memory : Memory) (fuel : ℕ) (shown : Shown)
     → bpf (help_shown point) code memory fuel shown
     ≡ record {
       end = (bpf (help point) code memory fuel shown.world).end;
       memory = (bpf (help point) code memory fuel shown.world).memory;
       world = record shown { world = (bpf (help point) code memory fuel shown.world).world };
     }
-bpf-help_shown point code memory fuel shown =
+shown_run point code memory fuel shown =
     sym (bpf-shown (λ (w : World). record shown { world = w }) (help point) (help_shown point) code (λ number args m w. refl) memory fuel shown.world)
