@@ -146,7 +146,8 @@ record IsClean (s : List ℕ) : Type 0 where
 IsClean-is_clean : (s : List ℕ) → is_clean s ≡ true → IsClean s
 IsClean-is_clean s e =
     let codes = codes_of s in
-    let both = and_parts (is_none (judge_section 4 s true) && not (has_code codes AS4_PATH)) (not (has_code codes AS4_AGGREGATOR)) e in
+    let both = and_parts (is_none (judge_section 4 s true) && not (has_code codes AS4_PATH))
+    (not (has_code codes AS4_AGGREGATOR)) e in
     let first = and_parts (is_none (judge_section 4 s true)) (not (has_code codes AS4_PATH)) both.0 in
     record {
       judged = is_none_none (judge_section 4 s true) first.0;
