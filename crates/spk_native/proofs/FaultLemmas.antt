@@ -1,6 +1,6 @@
 -- The judgement of an attribute with other flags, another value or another width.
 use Rattle.std.proofs.Common.{◌≡◌, inl, inr, refl, sym, ap, ◌∙◌, ℕ, ◌+◌, ◌/◌, ◌%◌, ◌^◌, Bool, true, false, List, [], ◌∷◌, length}
-use Rattle.std.proofs.Common.{Option, None, arith}
+use Rattle.std.proofs.Common.{None, arith}
 use Rattle.std.specs.Prelude.{bit_and, bit_or, not, slice_index, nat_lt, ◌==◌, ◌&&◌}
 use Rattle.std.proofs.lemmas.Bool.{and_parts, eq-eqb, ltb-true, ne_eqb}
 use Rattle.std.proofs.lemmas.Bool.Decides.{eqb_tells}
@@ -8,7 +8,6 @@ use Rattle.std.proofs.lemmas.Nat.{and_assoc, and_or_apart}
 use Rattle.xb_words.specs.Octets.{four_octets}
 use Rattle.bgp_attr.specs.declared.codes.TheConstants.{ORIGIN, AS_PATH, NEXT_HOP, LOCAL_PREF, AGGREGATOR}
 use Rattle.bgp_attr.specs.declared.flags.TheConstants.{WELL_KNOWN, PARTIAL}
-use Rattle.bgp_attr.specs.declared.rule.AttrFault.{AttrFault}
 use Rattle.bgp_attr.specs.declared.rule.AttrFault.TheVariants.{Unrecognized, NextHop, Path}
 use Rattle.bgp_attr.specs.Paths.{path_ok}
 use Rattle.bgp_attr.specs.Routes.{kept_flags}

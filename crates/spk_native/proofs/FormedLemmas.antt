@@ -143,7 +143,8 @@ items-octets (x ∷ xs) o = (
   items-octets xs (AllByRecursion-right (λ b. b < 256) x (concat xs) o),
 )
 
-items-kept : (xs : List (List ℕ)) → AllByRecursion (λ x. kept_flags (kept_flags (attr_flags x)) ≡ kept_flags (attr_flags x)) xs
+items-kept : (xs : List (List ℕ))
+    → AllByRecursion (λ x. kept_flags (kept_flags (attr_flags x)) ≡ kept_flags (attr_flags x)) xs
 items-kept [] = tt
 items-kept (x ∷ xs) = (kept_flags-kept_flags (attr_flags x), items-kept xs)
 
@@ -151,7 +152,8 @@ items-kept (x ∷ xs) = (kept_flags-kept_flags (attr_flags x), items-kept xs)
 pub IsFormed-route_of : (s : List ℕ) → AreOctets s → IsFormed (route_of s)
 IsFormed-route_of s o =
     let p = cut attribute_size s in
-    let joined : AreOctets (concat p.items ++ p.rest) = subst (λ (t : List ℕ). AreOctets t) (sym (concat-cut attribute_size s)) o in
+    let joined : AreOctets (concat p.items ++ p.rest) =
+    subst (λ (t : List ℕ). AreOctets t) (sym (concat-cut attribute_size s)) o in
     record {
       rising = rising-route_of s;
       flags = route_of-each (λ code a. kept_flags a.flags ≡ a.flags) s (items-kept (attributes s));
@@ -181,9 +183,9 @@ IsFormed-IsRoute r is = record {
 }
 
 -- what is left after a removal was there
-pub each-without_attribute : (P : ℕ → Attribute → Type 0) (r : Route) (code : ℕ) → IsStrictlySortedBy nat_cmp (keys_of r)
-    → ((q : ℕ) (a : Attribute) → attribute_at r q ≡ Some a → P q a) → (q : ℕ) (a : Attribute)
-    → attribute_at (without_attribute r code) q ≡ Some a → P q a
+pub each-without_attribute : (P : ℕ → Attribute → Type 0) (r : Route) (code : ℕ)
+    → IsStrictlySortedBy nat_cmp (keys_of r) → ((q : ℕ) (a : Attribute) → attribute_at r q ≡ Some a → P q a)
+    → (q : ℕ) (a : Attribute) → attribute_at (without_attribute r code) q ≡ Some a → P q a
 each-without_attribute P r code rising old q a e =
     let found : cond (is_at (nat_cmp code) q) None (attribute_at r q) ≡ Some a = sym (at-without r code q rising) ∙ e in
     elim (cases_Bool (is_at (nat_cmp code) q)) [

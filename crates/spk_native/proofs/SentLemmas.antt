@@ -1,8 +1,8 @@
 -- A route on its way to a peer, the section that is sent of it, and a route of the speaker's own: no attribute is
 -- malformed, and the mandatory ones are there.
-use Rattle.std.proofs.Common.{◌≡◌, inl, inr, refl, sym, ap, subst, ◌∙◌, ℕ, ◌+◌, ◌/◌, ◌^◌, ◌<◌, ◌≤◌, Bool, true, false}
-use Rattle.std.proofs.Common.{List, [], ◌∷◌, length, map, filter, Option, Some, None, is_some, unwrap_or, ◌%◌, arith}
-use Rattle.std.specs.Prelude.{not, nat_le, ◌==◌, ◌&&◌, ◌||◌, if◌then◌else◌}
+use Rattle.std.proofs.Common.{◌≡◌, inl, inr, refl, sym, ap, subst, ◌∙◌, ℕ, ◌/◌, ◌^◌, ◌<◌, Bool, true, false}
+use Rattle.std.proofs.Common.{List, [], ◌∷◌, drop, map, filter, Option, Some, None, is_some, unwrap_or, ◌%◌, arith}
+use Rattle.std.specs.Prelude.{nat_le, ◌||◌, if◌then◌else◌}
 use Rattle.std.specs.Option.{option_map}
 use Rattle.std.specs.List.{AllByRecursion}
 use Rattle.std.specs.List.Sorted.{IsStrictlySortedBy}
@@ -17,7 +17,7 @@ use Rattle.bgp_attr.specs.declared.codes.TheConstants.{ORIGIN, AS_PATH, NEXT_HOP
 use Rattle.bgp_attr.specs.declared.flags.TheConstants.{WELL_KNOWN}
 use Rattle.bgp_attr.specs.declared.segments.TheConstants.{MAX_NUMBERS}
 use Rattle.bgp_attr.specs.Paths.{path, path_ok, path_octets, prepend}
-use Rattle.bgp_attr.specs.Routes.{Attribute, Route, attribute_at, with_attribute, without_attribute, canon, kept_flags}
+use Rattle.bgp_attr.specs.Routes.{Attribute, Route, attribute_at, with_attribute, without_attribute, kept_flags}
 use Rattle.bgp_attr.specs.Routes.{route_of, IsEntry, IsRoute}
 use Rattle.bgp_attr.specs.Rules.{attr_fault, is_known, is_host}
 use Rattle.bgp_path.specs.Parts.{Part}
@@ -31,7 +31,7 @@ use Rattle.xbgp_view.proofs.ReadingLemmas.{route_of-canon}
 use Rattle.spk_native.specs.Export.{carry, is_passed_on, is_transitive, marked_partial, native_section, to_external}
 use Rattle.spk_native.specs.Export.{to_internal}
 use Rattle.spk_native.specs.Filters.{is_external}
-use Rattle.spk_native.specs.Values.{HasNoFault, IsFaultless, path_of, value_or_none}
+use Rattle.spk_native.specs.Values.{HasNoFault, IsFaultless, path_of}
 use Rattle.spk_native.proofs.ExportLemmas.{length-native_section}
 use Rattle.spk_native.proofs.FaultLemmas.{attr_fault-partial, attr_fault-origin, attr_fault-path}
 use Rattle.spk_native.proofs.FaultLemmas.{attr_fault-local_pref, attr_fault-next_hop}
@@ -108,7 +108,8 @@ path_ok-nil = refl
 path_ok-carried : (asn : ℕ) (r : Route) → IsFormed r → HasNoFault r
     → path_ok 4 (path_octets 4 (prepend asn (path_of (map marked_partial r)))) ≡ true
 path_ok-carried asn r is none =
-    ap (λ (o : Option Attribute). path_ok 4 (path_octets 4 (prepend asn (path 4 (unwrap_or (option_map (λ a. a.value) o) [])))))
+    ap (λ (o : Option Attribute).
+    path_ok 4 (path_octets 4 (prepend asn (path 4 (unwrap_or (option_map (λ a. a.value) o) [])))))
     (at-marked r AS_PATH refl)
     ∙ go (attribute_at r AS_PATH) refl
   where
@@ -163,7 +164,8 @@ to_internal_by : (P : Route → Type 0) (r : Route) (default : ℕ) → P r
     → P (with_attribute r LOCAL_PREF WELL_KNOWN (four_octets default)) → P (to_internal r default)
 to_internal_by P r default whole more = elim (cases_Bool (is_some (attribute_at r LOCAL_PREF))) [
   | inl there ↦
-      subst P (ap (λ b. if b then r else with_attribute r LOCAL_PREF WELL_KNOWN (four_octets default)) (sym there)) whole
+      subst P (ap (λ b. if b then r else with_attribute r LOCAL_PREF WELL_KNOWN (four_octets default)) (sym there))
+      whole
   | inr none ↦
       subst P (ap (λ b. if b then r else with_attribute r LOCAL_PREF WELL_KNOWN (four_octets default)) (sym none)) more
 ]
@@ -297,8 +299,9 @@ octet-rest n = omega arith
 pub IsRoute-own_route : (address : ℕ) → IsRoute (own_route address)
 unfolding IsStrictlySortedBy
 IsRoute-own_route address =
+    let last : AreOctets (drop 2 (four_octets address)) = (octet-rest (address / 256), (octet-rest address, tt)) in
     let octets : AreOctets (four_octets address) =
-    (octet-rest (address / 16777216), (octet-rest (address / 65536), (octet-rest (address / 256), (octet-rest address, tt)))) in
+    (octet-rest (address / 16777216), (octet-rest (address / 65536), last)) in
     record {
       rising = ((refl, (refl, tt)), ((refl, tt), (tt, tt)));
       entries = (

@@ -1,6 +1,6 @@
 -- Routes of sections without faults, and what becomes of them: no attribute is malformed, and the mandatory ones are
 -- there.
-use Rattle.std.proofs.Common.{◌≡◌, inl, inr, refl, sym, ap, subst, ◌∙◌, ℕ, ◌+◌, ◌/◌, ◌^◌, ◌<◌, ◌++◌, Bool, true, false}
+use Rattle.std.proofs.Common.{◌≡◌, inl, inr, refl, sym, ap, subst, ◌∙◌, ℕ, ◌<◌, Bool, true, false}
 use Rattle.std.proofs.Common.{List, [], ◌∷◌, cond, drop, length, map, Option, Some, None, is_some, arith}
 use Rattle.std.specs.Prelude.{IfSome, is_none, find, not, ◌==◌, ◌&&◌, if◌then◌else◌}
 use Rattle.std.specs.Option.{option_map}
@@ -42,7 +42,7 @@ use Rattle.spk_native.proofs.RebuildsLemmas.{kept, less, over, at-set_if, at-wit
 use Rattle.spk_native.proofs.RebuildsLemmas.{rising-without}
 use Rattle.spk_native.proofs.ReceiptLemmas.{by_code, inflow-set_if, inflow-wide, length-AGGREGATOR}
 use Rattle.spk_native.proofs.ValuesLemmas.{path_ok-no_fault}
-use Rattle.spk_native.proofs.WideNarrowLemmas.{IsPlain, inflow-narrow}
+use Rattle.spk_native.proofs.WideNarrowLemmas.{inflow-narrow}
 
 or_else_none : {A : Type 0} (a b : Option A) → or_else a b ≡ None → (a ≡ None) × (b ≡ None)
 or_else_none None b e = (refl, e)
@@ -146,7 +146,8 @@ record IsClean (s : List ℕ) : Type 0 where
 IsClean-is_clean : (s : List ℕ) → is_clean s ≡ true → IsClean s
 IsClean-is_clean s e =
     let codes = codes_of s in
-    let both = and_parts (is_none (judge_section 4 s true) && not (has_code codes AS4_PATH)) (not (has_code codes AS4_AGGREGATOR)) e in
+    let both = and_parts (is_none (judge_section 4 s true) && not (has_code codes AS4_PATH))
+    (not (has_code codes AS4_AGGREGATOR)) e in
     let first = and_parts (is_none (judge_section 4 s true)) (not (has_code codes AS4_PATH)) both.0 in
     record {
       judged = is_none_none (judge_section 4 s true) first.0;

@@ -158,7 +158,8 @@ wide_path-narrow_path : (v : List ℕ) → path_ok 4 v ≡ true → AreOctets v 
     → wide_path (narrow_path v) ≡ v
 unfolding wide_path
 wide_path-narrow_path v ok octets none =
-    ap (path_octets 4) (path-narrow_path v ok ∙ narrow_segments-same (path 4 v) none) ∙ path_octets-path true v octets ok
+    ap (path_octets 4) (path-narrow_path v ok ∙ narrow_segments-same (path 4 v) none)
+    ∙ path_octets-path true v octets ok
 
 -- a path made narrow, with itself beside it
 merge-narrow_path : (v : List ℕ) → path_ok 4 v ≡ true → AreOctets v → merge (narrow_path v) v ≡ v

@@ -1,5 +1,6 @@
-//! Tests of spk_native from outside: a received section is filtered and ranked in place, a section without fault is sent
-//! on, and three candidates of which the decision of two at a time and the decision of the set leave different ones.
+//! Tests of spk_native from outside: a received section is filtered and ranked in place, the route of a section without
+//! fault is sent on, and three candidates of which the decision of two at a time and the decision of the set leave
+//! different ones.
 #![tactic(auto)]
 
 ghost use Rattle.std.specs.Prelude.{◌≡◌, ◌≢◌, ◌≤◌, [], ◌∷◌, length};
@@ -36,8 +37,8 @@ pub fn rank_in(section: &[u8], side: &Side, local_pref: u32, cost: u32) -> Rank
     rank_of(&SectionView::new(section), side, local_pref, cost)
 }
 
-/// Whether a section of AS numbers of four octets is that of an announcement without fault; `out` is then the section of
-/// what a peer is sent of its route. The overlay is where the route is made.
+/// Whether a section with AS numbers of four octets is that of an announcement without fault, and its route short
+/// enough; `out` is then the section of what a peer is sent of the route, which is made in the overlay.
 pub fn sent_on(
     section: &[u8],
     peer: &Side,
