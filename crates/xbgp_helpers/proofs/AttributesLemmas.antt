@@ -1,14 +1,14 @@
 -- What was copied of an attribute, and which one is the least from a code on.
-use Rattle.std.proofs.Common.{◌≡◌, inl, inr, refl, sym, ap, ◌∙◌, ℕ, ◌+◌, ◌*◌, ◌<◌, ◌≤◌, true, false, List, [], ◌∷◌, ◌++◌, length, drop, Option, Some, None, arith, nat_le, find, eq-eqb}
+use Rattle.std.proofs.Common.{◌≡◌, inl, inr, refl, sym, ap, ◌∙◌, ℕ, ◌+◌, ◌*◌, ◌<◌, ◌≤◌, List, [], ◌∷◌, length, Option, Some, None, arith, nat_le, find, eq-eqb}
 use Rattle.std.specs.Option.{option_map, unwrap_or}
 use Rattle.std.specs.List.{AllByRecursion}
 use Rattle.std.specs.List.Sorted.{IsStrictlySortedBy}
 use Rattle.std.specs.Map.{keys_of}
 use Rattle.std.specs.Ordering.{nat_cmp}
-use Rattle.std.proofs.lemmas.Bool.{cases_Bool, le-ltb, leb-true, leb-false}
+use Rattle.std.proofs.lemmas.Bool.{cases_Bool, le-ltb, leb-false}
 use Rattle.std.proofs.lemmas.List.{append-nil, drop_all}
 use Rattle.bgp_attr.specs.Routes.{Attribute, Route, attribute_at, IsEntry}
-use Rattle.bpf_mem.specs.Memory.{Memory, with_octets}
+use Rattle.bpf_mem.specs.Memory.{Memory}
 use Rattle.bpf_mem.specs.Offsets.{lent}
 use Rattle.xbgp_view.specs.Views.{code_from, copied, flags_and_length}
 use Rattle.xbgp_view.proofs.LowerLemmas.{nat_cmp-greater, nat_cmp-equal}

@@ -1,20 +1,19 @@
 -- What a call and a run may change.
-use Rattle.std.proofs.Common.{◌≡◌, inl, inr, refl, sym, ap, ◌∙◌, ℕ, ◌≤◌, Bool, true, false, List, length, Option, Some, None, is_some, is_none, nat_lt, ◌==◌, ◌&&◌, ◌||◌, if◌then◌else◌, slice_index}
-use Rattle.std.proofs.lemmas.Bool.{cases_Bool, eqb-true, ltb-false}
+use Rattle.std.proofs.Common.{◌≡◌, inl, inr, refl, sym, ap, ◌∙◌, ℕ, Bool, true, false, List, length, Option, Some, None, is_some, is_none, nat_lt, ◌==◌, ◌&&◌, ◌||◌, if◌then◌else◌, slice_index}
+use Rattle.std.proofs.lemmas.Bool.{eqb-true, ltb-false}
 use Rattle.xb_words.specs.Optional.{◌>>=◌}
 use Rattle.xb_domain.specs.declared.point.Point.{Point}
 use Rattle.xb_domain.specs.declared.point.Point.TheVariants.{Receive, Inbound, Decision, Outbound, Encode}
 use Rattle.xb_domain.specs.Points.{helper_allowed}
 use Rattle.xb_wire.specs.declared.numbers.TheConstants.{MAX_MESSAGE}
-use Rattle.bgp_attr.specs.Routes.{Route, attribute_at, canon, as_width, with_attribute, without_attribute}
+use Rattle.bgp_attr.specs.Routes.{Route, attribute_at, canon, as_width, with_attribute}
 use Rattle.bgp_attr.specs.Rules.{attr_fault}
-use Rattle.bgp_attr.specs.declared.rule.AttrFault.{AttrFault}
 use Rattle.bpf_mem.specs.Memory.{Memory, octets_at}
 use Rattle.bpf_machine.specs.Running.{CallResult, bpf}
 use Rattle.bpf_machine.proofs.WorldLemmas.{world-kept}
 use Rattle.xbgp_helpers.specs.declared.numbers.TheConstants.{NEXT, GET_ATTR, SET_ATTR, DEL_ATTR, NEXT_ATTR, GET_PEER, GET_SOURCE, GET_PREFIX, MAP_GET, MAP_PUT, MAP_DEL, WRITE_BUF, ALLOC, TIME}
-use Rattle.xbgp_helpers.specs.Changes.{IsEdited, IsSet, IsUnset, changed_at}
-use Rattle.xbgp_helpers.specs.Helping.{Given, help, helped, says, writes_memory, edits_route, writes_maps, writes_buffer, moves_mark, counted, part_after, other_at, get_attr, set_attr, del_attr, next_attr, get_peer, get_source, get_prefix, map_get, map_put, map_del, write_buf, alloc, fitting, is_mandatory, when}
+use Rattle.xbgp_helpers.specs.Changes.{IsEdited, changed_at}
+use Rattle.xbgp_helpers.specs.Helping.{Given, help, helped, writes_maps, counted, part_after, other_at, set_attr, del_attr, map_put, map_del, write_buf, alloc, fitting, is_mandatory, when}
 use Rattle.xbgp_helpers.specs.Worlds.{World}
 
 -- a property of a choice

@@ -1,7 +1,7 @@
 -- Maps by their number, and what helpers do with them.
-use Rattle.std.proofs.Common.{◌≡◌, refl, sym, ap, ◌∙◌, ℕ, ◌+◌, ◌<◌, ◌≤◌, Bool, true, false, List, [], ◌∷◌, length, Option, Some, None, IfSome, is_some, arith, nat_lt, if◌then◌else◌}
+use Rattle.std.proofs.Common.{◌≡◌, refl, sym, ap, ◌∙◌, ℕ, Bool, true, false, List, Option, Some, None, IfSome, nat_lt, if◌then◌else◌}
 use Rattle.std.specs.Option.{option_map}
-use Rattle.bpf_mem.specs.Memory.{Memory, octets_at, writable_at}
+use Rattle.bpf_mem.specs.Memory.{Memory, octets_at}
 use Rattle.xbgp_maps.specs.declared.limits.TheConstants.{MAX_MAPS}
 use Rattle.xbgp_maps.specs.declared.shape.MapShape.{MapShape}
 use Rattle.xbgp_maps.specs.declared.shape.Put.{Put}

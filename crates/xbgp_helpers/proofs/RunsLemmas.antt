@@ -1,5 +1,5 @@
 -- What each call keeps true, a run keeps true.
-use Rattle.std.proofs.Common.{◌≡◌, inl, inr, refl, sym, subst, ℕ, zero, suc, ◌≤◌, ◌+◌, Bool, true, false, List, length, arith, nat_lt, slice_index, ◌==◌, ◌++◌}
+use Rattle.std.proofs.Common.{inl, inr, sym, subst, ℕ, zero, suc, ◌≤◌, ◌+◌, List, length, arith, nat_lt, slice_index, ◌==◌}
 use Rattle.std.proofs.lemmas.Bool.{ltb-false}
 use Rattle.std.proofs.lemmas.List.{length-append}
 use Rattle.xb_domain.specs.declared.point.Point.{Point}
@@ -12,7 +12,7 @@ use Rattle.bpf_machine.specs.Steps.{Machine, Did, goes, ends, faults, calls, tak
 use Rattle.bpf_machine.specs.Running.{CallResult, Helps, after_call, after_step, turns, bpf}
 use Rattle.xbgp_helpers.specs.declared.numbers.TheConstants.{NEXT, GET_ATTR, SET_ATTR, DEL_ATTR, NEXT_ATTR, GET_PEER, GET_SOURCE, GET_PREFIX, MAP_GET, MAP_PUT, MAP_DEL, WRITE_BUF, ALLOC, TIME, MAX_BUFFER}
 use Rattle.xbgp_helpers.specs.Changes.{IsEdited, IsSet, IsUnset}
-use Rattle.xbgp_helpers.specs.Helping.{Given, help, helped, part_after, write_buf, appended}
+use Rattle.xbgp_helpers.specs.Helping.{Given, help, helped, part_after, write_buf}
 use Rattle.xbgp_helpers.specs.Worlds.{World}
 use Rattle.xbgp_helpers.proofs.ChangesLemmas.{by_test, by_step, help-edited}
 

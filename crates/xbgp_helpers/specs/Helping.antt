@@ -1,9 +1,9 @@
 -- The helpers of programs, a definition for each (this project's own). One that gives None is misused, which is judged
 -- before any other answer; a misused helper changes nothing. Another gives a value, and what becomes of the part of the
 -- world or of the memory that it may change.
-use Rattle.std.specs.Prelude.{ℕ, ◌+◌, ◌-◌, ◌*◌, ◌/◌, Bool, true, false, List, [], ◌∷◌, ◌++◌, length, slice_index}
+use Rattle.std.specs.Prelude.{ℕ, ◌+◌, ◌-◌, ◌*◌, ◌/◌, Bool, List, [], ◌∷◌, ◌++◌, length, slice_index}
 use Rattle.std.specs.Prelude.{Option, Some, None, is_some, is_none, option_map, find, nat_lt, nat_le}
-use Rattle.std.specs.Prelude.{◌==◌, ◌&&◌, ◌||◌, not, if◌then◌else◌}
+use Rattle.std.specs.Prelude.{◌==◌, ◌&&◌, ◌||◌, if◌then◌else◌}
 use Rattle.xb_words.specs.Octets.{four_octets}
 use Rattle.xb_words.specs.Optional.{◌>>=◌}
 use Rattle.xb_values.specs.Prefixes.{Prefix}

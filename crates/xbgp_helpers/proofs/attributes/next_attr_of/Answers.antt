@@ -1,6 +1,4 @@
-use Rattle.std.proofs.Common.{◌≡◌, ◌+◌, ◌*◌, refl, sym, ◌∙◌, ap, Option, Some, None, find, nat_le}
-use Rattle.bgp_attr.specs.Routes.{Attribute}
-use Rattle.xbgp_helpers.specs.Helping.{code_and_flags}
+use Rattle.std.proofs.Common.{refl, nat_le}
 use Rattle.xbgp_helpers.proofs.AttributesLemmas.{first-code_from, code_and_flags-first, shown-first}
 use Rattle.xbgp_helpers.proofs.MapsLemmas.{when-passed}
 use Rattle.xbgp_helpers.proofs.attributes.next_attr_of.Goals as goal

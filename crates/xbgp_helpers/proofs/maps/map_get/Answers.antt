@@ -1,4 +1,4 @@
-use Rattle.std.proofs.Common.{◌≡◌, sym, ◌∙◌, ap, Option, Some, None}
+use Rattle.std.proofs.Common.{sym, ◌∙◌, ap}
 use Rattle.xbgp_helpers.specs.Memories.{is_writable}
 use Rattle.bpf_mem.specs.Memory.{octets_at}
 use Rattle.xbgp_helpers.proofs.MapsLemmas.{map_get-found, map_get-absent, when-passed}

@@ -1,4 +1,4 @@
-use Rattle.std.proofs.Common.{◌≡◌, sym, ◌∙◌, ap, Option, Some, None}
+use Rattle.std.proofs.Common.{◌∙◌, ap}
 use Rattle.bpf_mem.specs.Memory.{octets_at}
 use Rattle.xbgp_helpers.proofs.MapsLemmas.{map_put-counted, map_put-no_value}
 use Rattle.xbgp_helpers.proofs.maps.map_put.Goals as goal
