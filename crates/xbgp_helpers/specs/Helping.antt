@@ -25,7 +25,8 @@ use Rattle.xbgp_maps.specs.declared.shape.Put.{Put}
 use Rattle.xbgp_maps.specs.declared.shape.Put.TheVariants as puts
 use Rattle.xbgp_maps.specs.declared.shape.Remove.{Remove}
 use Rattle.xbgp_maps.specs.declared.shape.Remove.TheVariants as removes
-use Rattle.xbgp_maps.specs.Mappings.{Mapping, Journalled, mapping_at, value_in, with_entry, without_entry, put_answer, remove_answer}
+use Rattle.xbgp_maps.specs.Mappings.{Mapping, Journalled, mapping_at, value_in, with_entry, without_entry}
+use Rattle.xbgp_maps.specs.Mappings.{put_answer, remove_answer}
 use Rattle.xbgp_helpers.specs.declared.numbers.TheConstants.{NEXT, GET_ATTR, SET_ATTR, DEL_ATTR, NEXT_ATTR, GET_PEER}
 use Rattle.xbgp_helpers.specs.declared.numbers.TheConstants.{GET_SOURCE, GET_PREFIX, MAP_GET, MAP_PUT, MAP_DEL}
 use Rattle.xbgp_helpers.specs.declared.numbers.TheConstants.{WRITE_BUF, ALLOC, TIME, FIELDS, HEAP_UNIT, MAX_BUFFER}
@@ -62,7 +63,8 @@ get_attr route other which code dst room memory = do
 abbrev pub fitting : Route → Route → ℕ × Route
 fitting old new = if nat_lt MAX_MESSAGE (length (canon new)) then (MINUS_2, old) else (0, new)
 
--- helper 3, with a code, flags and the range of a value: -1 if the attribute has a fault, with AS numbers of four octets
+-- helper 3, with a code, flags and the range of a value: -1 if the attribute has a fault, with AS numbers of four
+-- octets
 abbrev pub set_attr : Route → ℕ → ℕ → ℕ → ℕ → Memory → Given Route
 set_attr route code flags src n memory = do
   _ ← when (nat_lt code 256 && nat_lt flags 256)

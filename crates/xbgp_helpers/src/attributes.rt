@@ -82,7 +82,8 @@ pub(crate) fn set_attr(
     memory: &Memory<'_>,
 ) -> Option<u64>
     ensures value { result ≡ value_of (set_attr route.old.route code flags src len memory.now) }
-    ensures route { route.new.route ≡ part_after route.old.route (set_attr route.old.route code flags src len memory.now) }
+    ensures route { route.new.route
+        ≡ part_after route.old.route (set_attr route.old.route code flags src len memory.now) }
     ensures kept { route.new.kept ≡ route.old.kept }
 {
     let code = octet(code)?;
