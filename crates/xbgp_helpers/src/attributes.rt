@@ -1,9 +1,9 @@
 // The helpers on routes.
-ghost use Rattle.std.specs.Prelude.{◌≡◌, ◌≤◌, length, nat_le, option_map, IsSome};
+ghost use Rattle.std.specs.Prelude.{◌≡◌, option_map, IsSome};
 ghost use Rattle.bgp_attr.specs.Routes.{attribute_at};
 ghost use Rattle.bpf_mem.specs.Memory.{writable_at};
-ghost use Rattle.xbgp_helpers.specs.Helping.{chosen_route, copied_attr, del_attr, get_attr, next_attr, part_after};
-ghost use Rattle.xbgp_helpers.specs.Helping.{code_and_flags, set_attr, value_of};
+ghost use Rattle.xbgp_helpers.specs.Helping.{copied_attr, del_attr, get_attr, next_attr, part_after, set_attr};
+ghost use Rattle.xbgp_helpers.specs.Helping.{value_of};
 
 use crate::numbers::{MINUS_1, MINUS_2};
 use crate::ranges::{octet, octets, when};
@@ -82,7 +82,8 @@ pub(crate) fn set_attr(
     memory: &Memory<'_>,
 ) -> Option<u64>
     ensures value { result ≡ value_of (set_attr route.old.route code flags src len memory.now) }
-    ensures route { route.new.route ≡ part_after route.old.route (set_attr route.old.route code flags src len memory.now) }
+    ensures route { route.new.route
+        ≡ part_after route.old.route (set_attr route.old.route code flags src len memory.now) }
     ensures kept { route.new.kept ≡ route.old.kept }
 {
     let code = octet(code)?;

@@ -1,6 +1,7 @@
 // The helpers on parties and prefixes.
 ghost use Rattle.std.specs.Prelude.{◌≡◌, ◌<◌};
-ghost use Rattle.xbgp_helpers.specs.Helping.{get_peer, get_prefix, get_source, part_after, prefix_for_program, value_of};
+ghost use Rattle.xbgp_helpers.specs.Helping.{get_peer, get_prefix, get_source, part_after, value_of};
+ghost use Rattle.xbgp_helpers.specs.Helping.{prefix_for_program};
 ghost use Rattle.xbgp_helpers.specs.Worlds.{field_of};
 
 use crate::numbers::FIELDS;
