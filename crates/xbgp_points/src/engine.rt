@@ -1,5 +1,5 @@
 // The engine that runs chains.
-ghost use Rattle.std.specs.Prelude.{◌≡◌, ◌≤◌, [], length, map, IfOk, IfSome, IsTrue};
+ghost use Rattle.std.specs.Prelude.{◌≡◌, ◌≤◌, [], length, IfOk, IfSome, IsTrue};
 ghost use Rattle.xb_words.specs.Table.{has_key};
 ghost use Rattle.spk_native.specs.Export.{native_section};
 ghost use Rattle.xbgp_maps.specs.Mappings.{closed, shapes_of};
@@ -8,7 +8,10 @@ ghost use Rattle.xbgp_points.specs.Chains.{fault_cmp, is_sendable};
 ghost use Rattle.xbgp_points.specs.Engines.{started, Answers, KeepsRoute};
 ghost use Rattle.xbgp_points.specs.Points.{encode, given_section, inbound, outbound, prefer, receive, section_left};
 
+use crate::order::{Orders, orders_of};
 use crate::outcome::Outcome;
+use crate::receive::chain_at_receive;
+use crate::work::Work;
 use bgp_attr::MAX_CANONICAL;
 use bpf_machine::Cause;
 use std::alloc::{AllocError, Global};
@@ -16,8 +19,8 @@ use std::marker::Model;
 use xb_domain::Side;
 use xb_values::{Buf, Prefix};
 use xb_wire::numbers::MAX_BODY;
-use xbgp_manifest::{Manifest, MapEntries};
-use xbgp_maps::{MapShape, Maps};
+use xbgp_manifest::Manifest;
+use xbgp_maps::Maps;
 use xbgp_view::{Overlay, RouteView};
 
 /// Runs the programs of a manifest, and keeps its maps and the faults that were noted.
@@ -25,57 +28,48 @@ use xbgp_view::{Overlay, RouteView};
 pub struct Engine {
     manifest: Manifest,
     local: Side,
-    maps: Maps,
-    wrote: bool,
+    orders: Orders,
+    work: Work,
 }
 
 impl Model for Engine {
-    ghost use Rattle.std.specs.Prelude.{◌≡◌, []};
+    ghost use Rattle.std.specs.Prelude.{◌≡◌};
+    ghost use Rattle.bgp_attr.specs.declared.TheConstants.{MAX_CANONICAL};
     ghost use Rattle.xbgp_maps.specs.Mappings.{closed, shapes_of};
     ghost use Rattle.xbgp_manifest.specs.Manifests.{entry_shapes};
     ghost use Rattle.xbgp_points.specs.Engines.{Kept};
+    ghost use Rattle.xbgp_points.specs.Orders.{AreOrders};
 
     ghost Value = { Kept };
 
     ghost view = { λ e. record {
       manifest = e.manifest;
       local = e.local;
-      engine = record { maps = (e.maps).maps; faults = [] };
-      wrote = e.wrote;
+      engine = record { maps = (e.work.maps).maps; faults = e.work.faults };
+      wrote = e.work.wrote;
     } };
 
     ghost invariant = { λ e.
-        ((e.manifest).programs ≡ [])
-        × (e.maps ≡ closed (e.maps).maps)
-        × (shapes_of (e.maps).maps ≡ entry_shapes (e.manifest).maps) };
-}
-
-// The shapes of a manifest's maps, in order.
-fn shapes(alloc: Global, maps: &MapEntries) -> Result<Vec<MapShape>, AllocError>
-    ensures { IfOk result (λ v. v.items ≡ entry_shapes maps.now) }
-{
-    let mut shapes = Vec::with_capacity(alloc, maps.len())?;
-    'maps: for i in 0..maps.len() {
-        shapes.push(maps.get(i).shape)?;
-    }
-    Ok(shapes)
+        AreOrders (e.manifest).programs e.orders
+        × (e.work.maps ≡ closed (e.work.maps).maps)
+        × (shapes_of (e.work.maps).maps ≡ entry_shapes (e.manifest).maps)
+        × (e.work.section.capacity ≡ MAX_CANONICAL) };
 }
 
 impl Engine {
-    /// An engine of a manifest without programs, for the speaker itself as `local`. All memory that its calls need is
-    /// taken here. Err if there is no memory.
+    /// An engine of a manifest, for the speaker itself as `local`. All memory that its calls need is taken here. Err if
+    /// there is no memory.
     #[tactic(auto, using(crate::proofs::MapLemmas::shapes_of_empty))]
     pub fn make(alloc: Global, manifest: Manifest, local: Side) -> Result<Engine, AllocError>
-        requires { manifest.programs ≡ [] }
         ensures { IfOk result (λ e. e ≡ started manifest local) }
     {
-        let shapes = shapes(alloc, &manifest.maps)?;
-        let maps = Maps::make(alloc, &shapes)?;
+        let orders = orders_of(alloc, &manifest.programs)?;
+        let work = Work::make(alloc, &manifest.maps)?;
         Ok(Engine {
             manifest,
             local,
-            maps,
-            wrote: false,
+            orders,
+            work,
         })
     }
 
@@ -89,8 +83,16 @@ impl Engine {
             self.old self.new result route.new.route }
         ensures keeps { KeepsRoute route.old.route route.new.route }
     {
-        self.wrote = false;
-        Outcome::Native
+        chain_at_receive(
+            &self.manifest.programs,
+            &self.orders.receive,
+            &mut self.work,
+            now,
+            peer,
+            route,
+            &self.local,
+            body,
+        )
     }
 
     /// Runs the programs at inbound on a copy of the route for one announced prefix.
@@ -101,7 +103,7 @@ impl Engine {
             self.old self.new result route.new.route }
         ensures keeps { KeepsRoute route.old.route route.new.route }
     {
-        self.wrote = false;
+        self.work.wrote = false;
         Outcome::Native
     }
 
@@ -120,7 +122,7 @@ impl Engine {
             (B.route new.now) new_side.now)
             self.old self.new result (A.route old.now) }
     {
-        self.wrote = false;
+        self.work.wrote = false;
         Outcome::Native
     }
 
@@ -141,7 +143,7 @@ impl Engine {
             self.old self.new result route.new.route }
         ensures keeps { KeepsRoute route.old.route route.new.route }
     {
-        self.wrote = false;
+        self.work.wrote = false;
         Outcome::Native
     }
 
@@ -173,7 +175,7 @@ impl Engine {
             (encode self.old.manifest self.old.local self.old.engine peer.now source.now (R.route best.now)
             route.now.route)) (λ s. IsTrue (is_sendable s)) }
     {
-        self.wrote = false;
+        self.work.wrote = false;
         Outcome::Native
     }
 
@@ -182,15 +184,14 @@ impl Engine {
         ensures maps { result.now ≡ closed self.now.engine.maps }
         ensures shapes { shapes_of self.now.engine.maps ≡ entry_shapes self.now.manifest.maps }
     {
-        &self.maps
+        &self.work.maps
     }
 
     /// Whether a program failed by this cause in some call.
     pub fn noted(&self, program: u32, cause: Cause) -> bool
         ensures { result ≡ has_key fault_cmp self.now.engine.faults (program, cause) }
     {
-        let _value = &self.maps;
-        false
+        self.work.faults.has(program, cause)
     }
 
     /// Whether the last of the five calls wrote to a map, and its chain did not fail. If it did not, the maps are as
@@ -198,6 +199,6 @@ impl Engine {
     pub fn wrote(&self) -> bool
         ensures { result ≡ self.now.wrote }
     {
-        self.wrote
+        self.work.wrote
     }
 }
