@@ -1,6 +1,6 @@
 -- The programs of a point by their numbers, and what a chain of them leaves (for private functions).
 use Rattle.std.specs.Prelude.{◌≡◌, ℕ, ◌<◌, false, List, [], ◌∷◌, length, map, filter, Option, Some, None, IsSomeAnd}
-use Rattle.std.specs.Prelude.{nat_lt, not, ◌&&◌}
+use Rattle.std.specs.Prelude.{nat_lt, not, ◌&&◌, ◌==◌, ◌++◌, if◌then◌else◌}
 use Rattle.std.specs.List.{slice_get, AllByRecursion}
 use Rattle.xb_domain.specs.declared.point.Point.{Point}
 use Rattle.xb_domain.specs.declared.point.Point.TheVariants.{Receive, Inbound, Decision, Outbound, Encode}
@@ -60,6 +60,10 @@ pub record Leaves (c : Chained) (given : Outcome) (noted : Faults) (left : Parts
   pub outcome : given ≡ c.outcome
   pub faults : noted ≡ c.faults
   pub parts : is_failed given ≡ false → left ≡ parts_of c.world
+
+-- the section that a verdict at encode gives, from the native section and the write buffer
+abbrev pub section_of : ℕ → List ℕ → List ℕ → List ℕ
+section_of verdict native buffer = if verdict == 1 then buffer else native ++ buffer
 
 -- what a chain gives, the route that it leaves, and the maps and faults that it leaves
 pub record Ran (c : Chained) (given : Outcome) (edited : Route) (w : Work) : Type 0 where
