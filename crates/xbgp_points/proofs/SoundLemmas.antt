@@ -20,7 +20,6 @@ use Rattle.xbgp_helpers.proofs.RunsLemmas.{bpf-keeps_route}
 use Rattle.xbgp_manifest.specs.declared.entries.ProgramEntry.{ProgramEntry}
 use Rattle.xbgp_points.specs.Chains.{Faults, chain_from}
 use Rattle.xbgp_points.proofs.KeepLemmas.{chain-keeps}
-use Rattle.xbgp_points.proofs.Native.{keeps_same}
 use Rattle.bgp_attr.specs.Routes.{Attribute, Route, attribute_at, with_attribute, without_attribute, canon, kept_flags}
 use Rattle.bgp_attr.specs.Routes.{as_width}
 use Rattle.bgp_attr.specs.Rules.{attr_fault}
@@ -33,6 +32,9 @@ use Rattle.spk_native.specs.Values.{HasNoFault}
 use Rattle.xbgp_helpers.specs.Changes.{IsSet, IsUnset}
 use Rattle.xbgp_helpers.specs.Helping.{is_mandatory}
 use Rattle.xbgp_points.specs.Engines.{HasMandatory, KeepsRoute}
+
+keeps_same : (r : Route) → KeepsRoute r r
+keeps_same r = record { mandatory = λ h. h; faultless = λ h. h; short = λ h. h }
 
 abbrev IsRising : Route → Type 0
 IsRising r = IsStrictlySortedBy nat_cmp (keys_of r)

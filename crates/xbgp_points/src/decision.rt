@@ -7,12 +7,13 @@ ghost use Rattle.xb_domain.specs.Points.{helper_allowed};
 ghost use Rattle.xb_domain.specs.declared.point.Point.TheVariants.{Decision};
 ghost use Rattle.xbgp_helpers.specs.Helping.{help};
 ghost use Rattle.xbgp_helpers.specs.Shows.{shown_at_decision};
-ghost use Rattle.xbgp_maps.specs.Mappings.{closed};
-ghost use Rattle.xbgp_points.specs.Chains.{chain_from};
-ghost use Rattle.xbgp_points.specs.Orders.{picked, AreRunnable, Leaves, Parts, Ran};
+ghost use Rattle.xbgp_maps.specs.Mappings.{closed, shapes_of};
+ghost use Rattle.xbgp_points.specs.Chains.{chain, chain_from};
+ghost use Rattle.xbgp_points.specs.Orders.{picked, AreOrders, AreRunnable, Leaves, Parts, Ran};
 
 use crate::chain::{Site, run_chain};
 use crate::fault::FaultSet;
+use crate::order::Orders;
 use crate::outcome::Outcome;
 use crate::work::Work;
 use bpf_machine::{End, run};
@@ -21,7 +22,7 @@ use bpf_mem::{Memory, Room};
 use xb_domain::Side;
 use xb_values::Prefix;
 use xbgp_helpers::DecisionWorld;
-use xbgp_manifest::{ProgramEntries, ProgramEntry};
+use xbgp_manifest::{Manifest, ProgramEntries, ProgramEntry};
 use xbgp_maps::Maps;
 use xbgp_view::RouteView;
 
@@ -137,8 +138,8 @@ fn run_programs<A: RouteView, B: RouteView>(
     run_chain(&mut site, programs, numbers, &[], room, faults)
 }
 
-/// Runs the programs of some numbers at decision.
-pub(crate) fn chain_at_decision<A: RouteView, B: RouteView>(
+// Runs the programs of some numbers at decision.
+fn chain_at_decision<A: RouteView, B: RouteView>(
     programs: &ProgramEntries,
     numbers: &[usize],
     work: &mut Work,
@@ -174,5 +175,41 @@ pub(crate) fn chain_at_decision<A: RouteView, B: RouteView>(
         new_side,
         local,
         &work.maps,
+    )
+}
+
+/// Runs the chain at decision.
+pub(crate) fn at_decision<A: RouteView, B: RouteView>(
+    manifest: &Manifest,
+    orders: &Orders,
+    work: &mut Work,
+    prefix: Prefix,
+    old: &A,
+    old_side: &Side,
+    new: &B,
+    new_side: &Side,
+    local: &Side,
+) -> Outcome
+    requires orders { AreOrders manifest.now.programs orders.now }
+    requires closed { work.old.maps ≡ closed work.old.maps.maps }
+    ensures ran { let shown = shown_at_decision prefix (A.route old.now) old_side.now (B.route new.now) new_side.now
+            local.now work.old.maps 0 in
+        let world = shown.world in
+        Ran (chain manifest.now Decision [] world work.old.faults)
+            result (A.route old.now) work.new }
+    ensures section { work.new.section ≡ work.old.section }
+    ensures closed { work.new.maps ≡ closed work.new.maps.maps }
+    ensures shapes { shapes_of work.new.maps.maps ≡ shapes_of work.old.maps.maps }
+{
+    chain_at_decision(
+        &manifest.programs,
+        &orders.decision,
+        work,
+        prefix,
+        old,
+        old_side,
+        new,
+        new_side,
+        local,
     )
 }

@@ -11,13 +11,14 @@ ghost use Rattle.xb_domain.specs.declared.point.Point.TheVariants.{Encode};
 ghost use Rattle.xbgp_helpers.specs.Helping.{help};
 ghost use Rattle.xbgp_helpers.specs.Shows.{shown_at_encode};
 ghost use Rattle.xbgp_helpers.specs.declared.numbers.TheConstants.{MAX_BUFFER};
-ghost use Rattle.xbgp_maps.specs.Mappings.{closed};
-ghost use Rattle.xbgp_points.specs.Chains.{chain_from, is_sendable};
-ghost use Rattle.xbgp_points.specs.Orders.{picked, AreRunnable, Leaves, Parts, Ran};
+ghost use Rattle.xbgp_maps.specs.Mappings.{closed, shapes_of};
+ghost use Rattle.xbgp_points.specs.Chains.{chain, chain_from, is_sendable};
+ghost use Rattle.xbgp_points.specs.Orders.{picked, AreOrders, AreRunnable, Leaves, Parts, Ran};
 ghost use Rattle.xbgp_points.specs.Points.{section_by};
 
 use crate::chain::{Site, run_chain};
 use crate::fault::FaultSet;
+use crate::order::Orders;
 use crate::outcome::Outcome;
 use crate::section::{compose, is_clean};
 use crate::work::Work;
@@ -29,7 +30,7 @@ use xb_domain::Side;
 use xb_values::Buf;
 use xbgp_helpers::EncodeWorld;
 use xbgp_helpers::numbers::MAX_BUFFER;
-use xbgp_manifest::{ProgramEntries, ProgramEntry};
+use xbgp_manifest::{Manifest, ProgramEntries, ProgramEntry};
 use xbgp_maps::Maps;
 use xbgp_view::{Overlay, RouteView};
 
@@ -189,8 +190,8 @@ fn give_section(outcome: &Outcome, route: &Overlay, native: &[u8], section: &mut
     }
 }
 
-/// Runs the programs of some numbers at encode.
-pub(crate) fn chain_at_encode<R: RouteView>(
+// Runs the programs of some numbers at encode.
+fn chain_at_encode<R: RouteView>(
     programs: &ProgramEntries,
     numbers: &[usize],
     work: &mut Work,
@@ -241,4 +242,51 @@ pub(crate) fn chain_at_encode<R: RouteView>(
     );
     give_section(&outcome, route, native, &mut work.section, out);
     outcome
+}
+
+/// Runs the chain at encode.
+pub(crate) fn at_encode<R: RouteView>(
+    manifest: &Manifest,
+    orders: &Orders,
+    work: &mut Work,
+    peer: &Side,
+    source: &Side,
+    best: &R,
+    route: &Overlay,
+    local: &Side,
+    native: &[u8],
+    out: &mut Buf,
+) -> Outcome
+    requires orders { AreOrders manifest.now.programs orders.now }
+    requires closed { work.old.maps ≡ closed work.old.maps.maps }
+    requires empty { out.old.octets ≡ [] }
+    requires room { MAX_CANONICAL ≤ out.old.capacity }
+    requires native { native.now ≡ native_section route.now.route }
+    requires section { MAX_CANONICAL ≤ work.old.section.capacity }
+    ensures ran { let shown = shown_at_encode peer.now source.now (R.route best.now) route.now.route out.old local.now
+            work.old.maps 0 in
+        let world = shown.world in
+        Ran (chain manifest.now Encode [] world work.old.faults)
+            result route.now.route work.new }
+    ensures out { let shown = shown_at_encode peer.now source.now (R.route best.now) route.now.route out.old local.now
+            work.old.maps 0 in
+        let world = shown.world in
+        let c = chain manifest.now Encode [] world work.old.faults in
+        out.new ≡ record out.old { octets = unwrap_or (section_by c.outcome c.world.route c.world.buffer) [] } }
+    ensures section { work.new.section.capacity ≡ work.old.section.capacity }
+    ensures closed { work.new.maps ≡ closed work.new.maps.maps }
+    ensures shapes { shapes_of work.new.maps.maps ≡ shapes_of work.old.maps.maps }
+{
+    chain_at_encode(
+        &manifest.programs,
+        &orders.encode,
+        work,
+        peer,
+        source,
+        best,
+        route,
+        local,
+        native,
+        out,
+    )
 }

@@ -8,9 +8,13 @@ ghost use Rattle.xbgp_points.specs.Chains.{fault_cmp, is_sendable};
 ghost use Rattle.xbgp_points.specs.Engines.{started, Answers, KeepsRoute};
 ghost use Rattle.xbgp_points.specs.Points.{encode, given_section, inbound, outbound, prefer, receive, section_left};
 
+use crate::decision::at_decision;
+use crate::encode::at_encode;
+use crate::inbound::at_inbound;
 use crate::order::{Orders, orders_of};
+use crate::outbound::at_outbound;
 use crate::outcome::Outcome;
-use crate::receive::chain_at_receive;
+use crate::receive::at_receive;
 use crate::work::Work;
 use bgp_attr::MAX_CANONICAL;
 use bpf_machine::Cause;
@@ -75,7 +79,6 @@ impl Engine {
 
     /// Runs the programs at receive on the route of an UPDATE with announced prefixes. `now` is the clock, `peer` the
     /// sender, `body` the message after its header.
-    #[tactic(auto, using(crate::proofs::Native::native, crate::proofs::Native::keeps_same))]
     pub fn receive(&mut self, now: u64, peer: &Side, route: &mut Overlay, body: &[u8]) -> Outcome
         requires { length body.now ≤ MAX_BODY }
         ensures answers { Answers
@@ -83,9 +86,9 @@ impl Engine {
             self.old self.new result route.new.route }
         ensures keeps { KeepsRoute route.old.route route.new.route }
     {
-        chain_at_receive(
-            &self.manifest.programs,
-            &self.orders.receive,
+        at_receive(
+            &self.manifest,
+            &self.orders,
             &mut self.work,
             now,
             peer,
@@ -96,19 +99,25 @@ impl Engine {
     }
 
     /// Runs the programs at inbound on a copy of the route for one announced prefix.
-    #[tactic(auto, using(crate::proofs::Native::native, crate::proofs::Native::keeps_same))]
     pub fn inbound(&mut self, now: u64, peer: &Side, prefix: Prefix, route: &mut Overlay) -> Outcome
         ensures answers { Answers
             (inbound self.old.manifest self.old.local self.old.engine now peer.now prefix route.old.route)
             self.old self.new result route.new.route }
         ensures keeps { KeepsRoute route.old.route route.new.route }
     {
-        self.work.wrote = false;
-        Outcome::Native
+        at_inbound(
+            &self.manifest,
+            &self.orders,
+            &mut self.work,
+            now,
+            peer,
+            prefix,
+            route,
+            &self.local,
+        )
     }
 
     /// Runs the programs at decision on two candidates for a prefix, each with its source.
-    #[tactic(auto, using(crate::proofs::Native::native))]
     pub fn prefer<A: RouteView, B: RouteView>(
         &mut self,
         prefix: Prefix,
@@ -122,13 +131,21 @@ impl Engine {
             (B.route new.now) new_side.now)
             self.old self.new result (A.route old.now) }
     {
-        self.work.wrote = false;
-        Outcome::Native
+        at_decision(
+            &self.manifest,
+            &self.orders,
+            &mut self.work,
+            prefix,
+            old,
+            old_side,
+            new,
+            new_side,
+            &self.local,
+        )
     }
 
     /// Runs the programs at outbound on the best route for a prefix as it would be exported to `peer`. `source` is
     /// the side that the best route comes from, and `best` that route before its export.
-    #[tactic(auto, using(crate::proofs::Native::native, crate::proofs::Native::keeps_same))]
     pub fn outbound<R: RouteView>(
         &mut self,
         peer: &Side,
@@ -143,13 +160,21 @@ impl Engine {
             self.old self.new result route.new.route }
         ensures keeps { KeepsRoute route.old.route route.new.route }
     {
-        self.work.wrote = false;
-        Outcome::Native
+        at_outbound(
+            &self.manifest,
+            &self.orders,
+            &mut self.work,
+            peer,
+            source,
+            prefix,
+            best,
+            route,
+            &self.local,
+        )
     }
 
     /// Runs the programs at encode on the route that outbound left, of which `native` is the native section. After a
     /// verdict `out` has the section to send, before it takes the form of its session; otherwise it stays empty.
-    #[tactic(auto, using(crate::proofs::Native::native))]
     pub fn encode<R: RouteView>(
         &mut self,
         peer: &Side,
@@ -175,8 +200,18 @@ impl Engine {
             (encode self.old.manifest self.old.local self.old.engine peer.now source.now (R.route best.now)
             route.now.route)) (λ s. IsTrue (is_sendable s)) }
     {
-        self.work.wrote = false;
-        Outcome::Native
+        at_encode(
+            &self.manifest,
+            &self.orders,
+            &mut self.work,
+            peer,
+            source,
+            best,
+            route,
+            &self.local,
+            native,
+            out,
+        )
     }
 
     /// The maps. No run is open in them.

@@ -8,13 +8,14 @@ ghost use Rattle.xb_domain.specs.Points.{helper_allowed};
 ghost use Rattle.xb_domain.specs.declared.point.Point.TheVariants.{Outbound};
 ghost use Rattle.xbgp_helpers.specs.Helping.{help};
 ghost use Rattle.xbgp_helpers.specs.Shows.{shown_at_outbound};
-ghost use Rattle.xbgp_maps.specs.Mappings.{closed};
-ghost use Rattle.xbgp_points.specs.Chains.{chain_from};
+ghost use Rattle.xbgp_maps.specs.Mappings.{closed, shapes_of};
+ghost use Rattle.xbgp_points.specs.Chains.{chain, chain_from};
 ghost use Rattle.xbgp_points.specs.Engines.{KeepsRoute};
-ghost use Rattle.xbgp_points.specs.Orders.{picked, AreRunnable, Leaves, Parts, Ran};
+ghost use Rattle.xbgp_points.specs.Orders.{picked, AreOrders, AreRunnable, Leaves, Parts, Ran};
 
 use crate::chain::{Site, run_chain};
 use crate::fault::FaultSet;
+use crate::order::Orders;
 use crate::outcome::Outcome;
 use crate::work::{Work, take_back};
 use bpf_machine::{End, run};
@@ -23,7 +24,7 @@ use bpf_mem::{Memory, Room};
 use xb_domain::Side;
 use xb_values::Prefix;
 use xbgp_helpers::OutboundWorld;
-use xbgp_manifest::{ProgramEntries, ProgramEntry};
+use xbgp_manifest::{Manifest, ProgramEntries, ProgramEntry};
 use xbgp_maps::Maps;
 use xbgp_view::{Overlay, RouteView};
 
@@ -144,8 +145,8 @@ fn run_programs<R: RouteView>(
     run_chain(&mut site, programs, numbers, &[], room, faults)
 }
 
-/// Runs the programs of some numbers at outbound.
-pub(crate) fn chain_at_outbound<R: RouteView>(
+// Runs the programs of some numbers at outbound.
+fn chain_at_outbound<R: RouteView>(
     programs: &ProgramEntries,
     numbers: &[usize],
     work: &mut Work,
@@ -188,4 +189,41 @@ pub(crate) fn chain_at_outbound<R: RouteView>(
     );
     take_back(&outcome, route);
     outcome
+}
+
+/// Runs the chain at outbound.
+pub(crate) fn at_outbound<R: RouteView>(
+    manifest: &Manifest,
+    orders: &Orders,
+    work: &mut Work,
+    peer: &Side,
+    source: &Side,
+    prefix: Prefix,
+    best: &R,
+    route: &mut Overlay,
+    local: &Side,
+) -> Outcome
+    requires orders { AreOrders manifest.now.programs orders.now }
+    requires closed { work.old.maps ≡ closed work.old.maps.maps }
+    ensures ran { let shown = shown_at_outbound peer.now source.now prefix (R.route best.now) route.old local.now
+            work.old.maps 0 in
+        let world = shown.world in
+        Ran (chain manifest.now Outbound [] world work.old.faults)
+            result route.new.route work.new }
+    ensures keeps { KeepsRoute route.old.route route.new.route }
+    ensures section { work.new.section ≡ work.old.section }
+    ensures closed { work.new.maps ≡ closed work.new.maps.maps }
+    ensures shapes { shapes_of work.new.maps.maps ≡ shapes_of work.old.maps.maps }
+{
+    chain_at_outbound(
+        &manifest.programs,
+        &orders.outbound,
+        work,
+        peer,
+        source,
+        prefix,
+        best,
+        route,
+        local,
+    )
 }
