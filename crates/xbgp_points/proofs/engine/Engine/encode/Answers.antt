@@ -32,13 +32,12 @@ returns-clause-answers g c =
       wrote = left.wrote;
     } in
     subst (λ (k : Kept). Answers (encode k.manifest k.local k.engine c.args.peer.now c.args.source.now (g.R.RouteView.route c.args.best.now) c.args.route.now.route) k
-          (record k { engine = record { maps = (left.maps).maps; faults = left.faults }; wrote = left.wrote })
-          c.at_encode.result c.args.route.now.route) c.self.view_is
+          new c.at_encode.result c.args.route.now.route) c.self.view_is
       (answers (chain manifest Encode [] (world c.args.out.now maps) noted) (chain manifest Encode [] (world (record c.args.out.now { octets = [] }) (closed maps.maps)) noted)
         old new c.at_encode.result c.args.route.now.route left c.at_encode.ensures.ran
         (ap (λ (o : List ℕ). chain manifest Encode [] (world (record c.args.out.now { octets = o }) maps) noted)
           c.requires.empty
-        ∙ ap (λ (m : Journalled). chain manifest Encode [] (world (record c.args.out.now { octets = [] }) m) noted) c.self.invariant.1.0)
+        ∙ ap (λ (m : Journalled). chain manifest Encode [] (world (record c.args.out.now { octets = [] }) m) noted) c.self.invariant.1)
         refl)
 
 pub returns-clause-section : goal.returns-clause-section
@@ -55,7 +54,7 @@ returns-clause-section g c =
       (subst (λ (x : Chained). c.at_encode.new.out ≡ record c.args.out.now { octets = section_left (called x) })
         (ap (λ (o : List ℕ). chain manifest Encode [] (world (record c.args.out.now { octets = o }) maps) noted)
           c.requires.empty
-        ∙ ap (λ (m : Journalled). chain manifest Encode [] (world (record c.args.out.now { octets = [] }) m) noted) c.self.invariant.1.0)
+        ∙ ap (λ (m : Journalled). chain manifest Encode [] (world (record c.args.out.now { octets = [] }) m) noted) c.self.invariant.1)
         c.at_encode.ensures.out)
 
 pub returns-clause-sendable : goal.returns-clause-sendable

@@ -31,9 +31,8 @@ returns-clause-answers c =
       wrote = left.wrote;
     } in
     subst (λ (k : Kept). Answers (inbound k.manifest k.local k.engine c.args.now c.args.peer.now c.args.prefix c.args.route.now.route) k
-          (record k { engine = record { maps = (left.maps).maps; faults = left.faults }; wrote = left.wrote })
-          c.at_inbound.result c.at_inbound.new.route.route) c.self.view_is
+          new c.at_inbound.result c.at_inbound.new.route.route) c.self.view_is
       (answers (chain manifest Inbound [] (world maps) noted) (chain manifest Inbound [] (world (closed maps.maps)) noted)
         old new c.at_inbound.result c.at_inbound.new.route.route left c.at_inbound.ensures.ran
-        (ap (λ (m : Journalled). chain manifest Inbound [] (world m) noted) c.self.invariant.1.0)
+        (ap (λ (m : Journalled). chain manifest Inbound [] (world m) noted) c.self.invariant.1)
         refl)

@@ -32,9 +32,8 @@ returns-clause-answers g c =
       wrote = left.wrote;
     } in
     subst (λ (k : Kept). Answers (outbound k.manifest k.local k.engine c.args.peer.now c.args.source.now c.args.prefix (g.R.RouteView.route c.args.best.now) c.args.route.now.route) k
-          (record k { engine = record { maps = (left.maps).maps; faults = left.faults }; wrote = left.wrote })
-          c.at_outbound.result c.at_outbound.new.route.route) c.self.view_is
+          new c.at_outbound.result c.at_outbound.new.route.route) c.self.view_is
       (answers (chain manifest Outbound [] (world maps) noted) (chain manifest Outbound [] (world (closed maps.maps)) noted)
         old new c.at_outbound.result c.at_outbound.new.route.route left c.at_outbound.ensures.ran
-        (ap (λ (m : Journalled). chain manifest Outbound [] (world m) noted) c.self.invariant.1.0)
+        (ap (λ (m : Journalled). chain manifest Outbound [] (world m) noted) c.self.invariant.1)
         refl)

@@ -33,9 +33,8 @@ returns g c =
     } in
     subst (λ (k : Kept). Answers (prefer k.manifest k.local k.engine c.args.prefix (g.A.RouteView.route c.args.old.now) c.args.old_side.now (g.B.RouteView.route c.args.new.now)
           c.args.new_side.now) k
-          (record k { engine = record { maps = (left.maps).maps; faults = left.faults }; wrote = left.wrote })
-          c.at_decision.result (g.A.RouteView.route c.args.old.now)) c.self.view_is
+          new c.at_decision.result (g.A.RouteView.route c.args.old.now)) c.self.view_is
       (answers (chain manifest Decision [] (world maps) noted) (chain manifest Decision [] (world (closed maps.maps)) noted)
         old new c.at_decision.result (g.A.RouteView.route c.args.old.now) left c.at_decision.ensures.ran
-        (ap (λ (m : Journalled). chain manifest Decision [] (world m) noted) c.self.invariant.1.0)
+        (ap (λ (m : Journalled). chain manifest Decision [] (world m) noted) c.self.invariant.1)
         refl)

@@ -31,9 +31,8 @@ returns-clause-answers c =
       wrote = left.wrote;
     } in
     subst (λ (k : Kept). Answers (receive k.manifest k.local k.engine c.args.now c.args.peer.now c.args.route.now.route c.args.body.now) k
-          (record k { engine = record { maps = (left.maps).maps; faults = left.faults }; wrote = left.wrote })
-          c.at_receive.result c.at_receive.new.route.route) c.self.view_is
+          new c.at_receive.result c.at_receive.new.route.route) c.self.view_is
       (answers (chain manifest Receive c.args.body.now (world maps) noted) (chain manifest Receive c.args.body.now (world (closed maps.maps)) noted)
         old new c.at_receive.result c.at_receive.new.route.route left c.at_receive.ensures.ran
-        (ap (λ (m : Journalled). chain manifest Receive c.args.body.now (world m) noted) c.self.invariant.1.0)
+        (ap (λ (m : Journalled). chain manifest Receive c.args.body.now (world m) noted) c.self.invariant.1)
         refl)
