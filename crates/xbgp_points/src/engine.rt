@@ -5,7 +5,7 @@ ghost use Rattle.spk_native.specs.Export.{native_section};
 ghost use Rattle.xbgp_maps.specs.Mappings.{closed, shapes_of};
 ghost use Rattle.xbgp_manifest.specs.Manifests.{entry_shapes};
 ghost use Rattle.xbgp_points.specs.Chains.{fault_cmp, is_sendable};
-ghost use Rattle.xbgp_points.specs.Engines.{started, Answers, KeepsRoute};
+ghost use Rattle.xbgp_points.specs.Engines.{started, Answers, IsUndone, KeepsRoute};
 ghost use Rattle.xbgp_points.specs.Points.{encode, given_section, inbound, outbound, prefer, receive, section_left};
 
 use crate::decision::at_decision;
@@ -84,6 +84,7 @@ impl Engine {
         ensures answers { Answers
             (receive self.old.manifest self.old.local self.old.engine now peer.now route.old.route body.now)
             self.old self.new result route.new.route }
+        ensures undone { IsUndone result self.old self.new route.old.route route.new.route }
         ensures keeps { KeepsRoute route.old.route route.new.route }
     {
         at_receive(
@@ -103,6 +104,7 @@ impl Engine {
         ensures answers { Answers
             (inbound self.old.manifest self.old.local self.old.engine now peer.now prefix route.old.route)
             self.old self.new result route.new.route }
+        ensures undone { IsUndone result self.old self.new route.old.route route.new.route }
         ensures keeps { KeepsRoute route.old.route route.new.route }
     {
         at_inbound(
@@ -126,10 +128,11 @@ impl Engine {
         new: &B,
         new_side: &Side,
     ) -> Outcome
-        ensures { Answers
+        ensures answers { Answers
             (prefer self.old.manifest self.old.local self.old.engine prefix (A.route old.now) old_side.now
             (B.route new.now) new_side.now)
             self.old self.new result (A.route old.now) }
+        ensures undone { IsUndone result self.old self.new (A.route old.now) (A.route old.now) }
     {
         at_decision(
             &self.manifest,
@@ -158,6 +161,7 @@ impl Engine {
             (outbound self.old.manifest self.old.local self.old.engine peer.now source.now prefix (R.route best.now)
             route.old.route)
             self.old self.new result route.new.route }
+        ensures undone { IsUndone result self.old self.new route.old.route route.new.route }
         ensures keeps { KeepsRoute route.old.route route.new.route }
     {
         at_outbound(
@@ -191,6 +195,7 @@ impl Engine {
             (encode self.old.manifest self.old.local self.old.engine peer.now source.now (R.route best.now)
             route.now.route)
             self.old self.new result route.now.route }
+        ensures undone { IsUndone result self.old self.new route.now.route route.now.route }
         ensures section { out.new ≡ record out.old {
           octets = section_left
               (encode self.old.manifest self.old.local self.old.engine peer.now source.now (R.route best.now)

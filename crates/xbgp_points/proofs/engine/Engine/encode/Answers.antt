@@ -4,11 +4,12 @@ use Rattle.std.specs.Prelude.{IfSome, IsTrue}
 use Rattle.xb_domain.specs.declared.point.Point.TheVariants.{Encode}
 use Rattle.xb_values.specs.Buffers.{Buffer}
 use Rattle.xbgp_helpers.specs.Shows.{shown_at_encode}
+use Rattle.xbgp_helpers.specs.Worlds.{nobody, nowhere}
 use Rattle.xbgp_maps.specs.Mappings.{Journalled, closed}
 use Rattle.xbgp_points.specs.Chains.{Chained, chain, is_sendable, programs_at}
 use Rattle.xbgp_points.specs.Engines.{Answers, Kept}
-use Rattle.xbgp_points.specs.Points.{called, given_section, section_by, section_left, encode}
-use Rattle.xbgp_points.proofs.EngineLemmas.{answers}
+use Rattle.xbgp_points.specs.Points.{called, given_section, section_by, section_left, world_of, encode}
+use Rattle.xbgp_points.proofs.EngineLemmas.{answers, undone}
 use Rattle.xbgp_points.proofs.SectionLemmas.{chain-sends}
 use Rattle.xbgp_points.proofs.engine.Engine.encode.Goals as goal
 
@@ -66,3 +67,12 @@ returns-clause-sendable g c =
         self.local m 0).world in
     let start = world (record c.args.out.now { octets = [] }) (closed self.engine.maps) in
     chain-sends [] start self.engine.faults (programs_at self.manifest Encode) start
+
+pub returns-clause-undone : goal.returns-clause-undone
+returns-clause-undone g c =
+    let self = c.args.self.now in
+    let w =
+      world_of self.engine self.local c.args.peer.now c.args.source.now nowhere 0 c.args.route.now.route
+      (g.R.RouteView.route c.args.best.now) c.args.source.now in
+    undone self.manifest Encode [] w self _ c.at_encode.result c.args.route.now.route refl
+      (returns-clause-answers g c)

@@ -4,11 +4,12 @@ use Rattle.std.specs.Prelude.{IfSome, IsTrue}
 use Rattle.xb_domain.specs.declared.point.Point.TheVariants.{Inbound}
 use Rattle.xb_values.specs.Buffers.{Buffer}
 use Rattle.xbgp_helpers.specs.Shows.{shown_at_inbound}
+use Rattle.xbgp_helpers.specs.Worlds.{nobody, nowhere}
 use Rattle.xbgp_maps.specs.Mappings.{Journalled, closed}
 use Rattle.xbgp_points.specs.Chains.{Chained, chain, is_sendable, programs_at}
 use Rattle.xbgp_points.specs.Engines.{Answers, Kept}
-use Rattle.xbgp_points.specs.Points.{called, given_section, section_by, section_left, inbound}
-use Rattle.xbgp_points.proofs.EngineLemmas.{answers}
+use Rattle.xbgp_points.specs.Points.{called, given_section, section_by, section_left, world_of, inbound}
+use Rattle.xbgp_points.proofs.EngineLemmas.{answers, undone}
 use Rattle.xbgp_points.proofs.SectionLemmas.{chain-sends}
 use Rattle.xbgp_points.proofs.engine.Engine.inbound.Goals as goal
 
@@ -36,3 +37,11 @@ returns-clause-answers c =
         old new c.at_inbound.result c.at_inbound.new.route.route left c.at_inbound.ensures.ran
         (ap (λ (m : Journalled). chain manifest Inbound [] (world m) noted) c.self.invariant.1)
         refl)
+
+pub returns-clause-undone : goal.returns-clause-undone
+returns-clause-undone c =
+    let self = c.args.self.now in
+    let w =
+      world_of self.engine self.local c.args.peer.now nobody c.args.prefix c.args.now c.args.route.now.route [] nobody in
+    undone self.manifest Inbound [] w self _ c.at_inbound.result c.at_inbound.new.route.route refl
+      (returns-clause-answers c)

@@ -4,11 +4,12 @@ use Rattle.std.specs.Prelude.{IfSome, IsTrue}
 use Rattle.xb_domain.specs.declared.point.Point.TheVariants.{Outbound}
 use Rattle.xb_values.specs.Buffers.{Buffer}
 use Rattle.xbgp_helpers.specs.Shows.{shown_at_outbound}
+use Rattle.xbgp_helpers.specs.Worlds.{nobody, nowhere}
 use Rattle.xbgp_maps.specs.Mappings.{Journalled, closed}
 use Rattle.xbgp_points.specs.Chains.{Chained, chain, is_sendable, programs_at}
 use Rattle.xbgp_points.specs.Engines.{Answers, Kept}
-use Rattle.xbgp_points.specs.Points.{called, given_section, section_by, section_left, outbound}
-use Rattle.xbgp_points.proofs.EngineLemmas.{answers}
+use Rattle.xbgp_points.specs.Points.{called, given_section, section_by, section_left, world_of, outbound}
+use Rattle.xbgp_points.proofs.EngineLemmas.{answers, undone}
 use Rattle.xbgp_points.proofs.SectionLemmas.{chain-sends}
 use Rattle.xbgp_points.proofs.engine.Engine.outbound.Goals as goal
 
@@ -37,3 +38,12 @@ returns-clause-answers g c =
         old new c.at_outbound.result c.at_outbound.new.route.route left c.at_outbound.ensures.ran
         (ap (λ (m : Journalled). chain manifest Outbound [] (world m) noted) c.self.invariant.1)
         refl)
+
+pub returns-clause-undone : goal.returns-clause-undone
+returns-clause-undone g c =
+    let self = c.args.self.now in
+    let w =
+      world_of self.engine self.local c.args.peer.now c.args.source.now c.args.prefix 0 c.args.route.now.route
+      (g.R.RouteView.route c.args.best.now) c.args.source.now in
+    undone self.manifest Outbound [] w self _ c.at_outbound.result c.at_outbound.new.route.route refl
+      (returns-clause-answers g c)

@@ -4,16 +4,17 @@ use Rattle.std.specs.Prelude.{IfSome, IsTrue}
 use Rattle.xb_domain.specs.declared.point.Point.TheVariants.{Decision}
 use Rattle.xb_values.specs.Buffers.{Buffer}
 use Rattle.xbgp_helpers.specs.Shows.{shown_at_decision}
+use Rattle.xbgp_helpers.specs.Worlds.{nobody, nowhere}
 use Rattle.xbgp_maps.specs.Mappings.{Journalled, closed}
 use Rattle.xbgp_points.specs.Chains.{Chained, chain, is_sendable, programs_at}
 use Rattle.xbgp_points.specs.Engines.{Answers, Kept}
-use Rattle.xbgp_points.specs.Points.{called, given_section, section_by, section_left, prefer}
-use Rattle.xbgp_points.proofs.EngineLemmas.{answers}
+use Rattle.xbgp_points.specs.Points.{called, given_section, section_by, section_left, world_of, prefer}
+use Rattle.xbgp_points.proofs.EngineLemmas.{answers, undone}
 use Rattle.xbgp_points.proofs.SectionLemmas.{chain-sends}
 use Rattle.xbgp_points.proofs.engine.Engine.prefer.Goals as goal
 
-pub returns : goal.returns
-returns g c =
+pub returns-clause-answers : goal.returns-clause-answers
+returns-clause-answers g c =
     let manifest = c.self.inside.manifest in
     let maps = c.self.inside.work.maps in
     let noted = c.self.inside.work.faults in
@@ -38,3 +39,12 @@ returns g c =
         old new c.at_decision.result (g.A.RouteView.route c.args.old.now) left c.at_decision.ensures.ran
         (ap (λ (m : Journalled). chain manifest Decision [] (world m) noted) c.self.invariant.1)
         refl)
+
+pub returns-clause-undone : goal.returns-clause-undone
+returns-clause-undone g c =
+    let self = c.args.self.now in
+    let w =
+      world_of self.engine self.local nobody c.args.old_side.now c.args.prefix 0 (g.A.RouteView.route c.args.old.now)
+      (g.B.RouteView.route c.args.new.now) c.args.new_side.now in
+    undone self.manifest Decision [] w self _ c.at_decision.result (g.A.RouteView.route c.args.old.now) refl
+      (returns-clause-answers g c)
