@@ -7,3 +7,5 @@ mod runs;
 
 pub use runs::{run_at_decision, run_at_encode, run_at_inbound, run_at_outbound, run_at_receive};
 
+#[cfg(test)]
+mod tests;

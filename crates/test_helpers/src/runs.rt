@@ -94,8 +94,8 @@ pub fn run_at_decision<A: RouteView, B: RouteView>(
     maps: &Maps,
 ) -> End
     requires { CallsOnly (helper_allowed Decision) code.now }
-    ensures { let shown = shown_at_decision prefix (A.route old.now) old_side.now (B.route new.now) new_side.now local.now
-        maps.now 0 in
+    ensures { let shown = shown_at_decision prefix (A.route old.now) old_side.now (B.route new.now) new_side.now
+        local.now maps.now 0 in
         result ≡ (bpf (help Decision) code.now (fresh []) fuel shown.world).end }
 {
     let mut memory = Memory::over(room, &[]);
@@ -118,8 +118,8 @@ pub fn run_at_outbound<R: RouteView>(
     maps: &Maps,
 ) -> End
     requires { CallsOnly (helper_allowed Outbound) code.now }
-    ensures end { let shown = shown_at_outbound peer.now source.now prefix (R.route best.now) route.old local.now maps.now
-        0 in
+    ensures end { let shown = shown_at_outbound peer.now source.now prefix (R.route best.now) route.old local.now
+        maps.now 0 in
         result ≡ (bpf (help Outbound) code.now (fresh []) fuel shown.world).end }
     ensures route { let shown = shown_at_outbound peer.now source.now prefix (R.route best.now) route.old local.now
         maps.now 0 in
@@ -148,8 +148,8 @@ pub fn run_at_encode<R: RouteView>(
     requires calls { CallsOnly (helper_allowed Encode) code.now }
     requires room { MAX_BUFFER ≤ buffer.old.capacity }
     requires short { length buffer.old.octets ≤ MAX_BUFFER }
-    ensures end { let shown = shown_at_encode peer.now source.now (R.route best.now) route.now.route buffer.old local.now
-        maps.now 0 in
+    ensures end { let shown = shown_at_encode peer.now source.now (R.route best.now) route.now.route buffer.old
+        local.now maps.now 0 in
         result ≡ (bpf (help Encode) code.now (fresh []) fuel shown.world).end }
     ensures buffer { let shown = shown_at_encode peer.now source.now (R.route best.now) route.now.route buffer.old
         local.now maps.now 0 in

@@ -17,4 +17,5 @@ pub shown_run : (point : Point) (code : List ℕ) (memory : Memory) (fuel : ℕ)
       world = record shown { world = (bpf (help point) code memory fuel shown.world).world };
     }
 shown_run point code memory fuel shown =
-    sym (bpf-shown (λ (w : World). record shown { world = w }) (help point) (help_shown point) code (λ number args m w. refl) memory fuel shown.world)
+    sym (bpf-shown (λ (w : World). record shown { world = w }) (help point) (help_shown point) code
+    (λ number args m w. refl) memory fuel shown.world)

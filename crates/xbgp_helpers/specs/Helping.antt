@@ -1,9 +1,9 @@
 -- The helpers of programs, a definition for each (this project's own). One that gives None is misused, which is judged
 -- before any other answer; a misused helper changes nothing. Another gives a value, and what becomes of the part of the
 -- world or of the memory that it may change.
-use Rattle.std.specs.Prelude.{ℕ, ◌+◌, ◌-◌, ◌*◌, ◌/◌, Bool, true, false, List, [], ◌∷◌, ◌++◌, length, slice_index}
+use Rattle.std.specs.Prelude.{ℕ, ◌+◌, ◌-◌, ◌*◌, ◌/◌, Bool, List, [], ◌∷◌, ◌++◌, length, slice_index}
 use Rattle.std.specs.Prelude.{Option, Some, None, is_some, is_none, option_map, find, nat_lt, nat_le}
-use Rattle.std.specs.Prelude.{◌==◌, ◌&&◌, ◌||◌, not, if◌then◌else◌}
+use Rattle.std.specs.Prelude.{◌==◌, ◌&&◌, ◌||◌, if◌then◌else◌}
 use Rattle.xb_words.specs.Octets.{four_octets}
 use Rattle.xb_words.specs.Optional.{◌>>=◌}
 use Rattle.xb_values.specs.Prefixes.{Prefix}
@@ -25,7 +25,8 @@ use Rattle.xbgp_maps.specs.declared.shape.Put.{Put}
 use Rattle.xbgp_maps.specs.declared.shape.Put.TheVariants as puts
 use Rattle.xbgp_maps.specs.declared.shape.Remove.{Remove}
 use Rattle.xbgp_maps.specs.declared.shape.Remove.TheVariants as removes
-use Rattle.xbgp_maps.specs.Mappings.{Mapping, Journalled, mapping_at, value_in, with_entry, without_entry, put_answer, remove_answer}
+use Rattle.xbgp_maps.specs.Mappings.{Mapping, Journalled, mapping_at, value_in, with_entry, without_entry}
+use Rattle.xbgp_maps.specs.Mappings.{put_answer, remove_answer}
 use Rattle.xbgp_helpers.specs.declared.numbers.TheConstants.{NEXT, GET_ATTR, SET_ATTR, DEL_ATTR, NEXT_ATTR, GET_PEER}
 use Rattle.xbgp_helpers.specs.declared.numbers.TheConstants.{GET_SOURCE, GET_PREFIX, MAP_GET, MAP_PUT, MAP_DEL}
 use Rattle.xbgp_helpers.specs.declared.numbers.TheConstants.{WRITE_BUF, ALLOC, TIME, FIELDS, HEAP_UNIT, MAX_BUFFER}
@@ -62,14 +63,15 @@ get_attr route other which code dst room memory = do
 abbrev pub fitting : Route → Route → ℕ × Route
 fitting old new = if nat_lt MAX_MESSAGE (length (canon new)) then (MINUS_2, old) else (0, new)
 
--- helper 3, with a code, flags and the range of a value: -1 if the attribute has a fault, with AS numbers of four octets
+-- helper 3, with a code, flags and the range of a value: -1 if the attribute has a fault, with AS numbers of four
+-- octets
 abbrev pub set_attr : Route → ℕ → ℕ → ℕ → ℕ → Memory → Given Route
 set_attr route code flags src n memory = do
   _ ← when (nat_lt code 256 && nat_lt flags 256)
   value ← octets_at memory src n
   Some (if is_some (attr_fault as_width code flags value)
-    then (MINUS_1, route)
-    else fitting route (with_attribute route code flags value))
+      then (MINUS_1, route)
+      else fitting route (with_attribute route code flags value))
 
 -- the codes that every announced route has: ORIGIN, AS_PATH and NEXT_HOP (RFC 4271, section 5)
 abbrev pub is_mandatory : ℕ → Bool
@@ -80,8 +82,8 @@ abbrev pub del_attr : Route → ℕ → Given Route
 del_attr route code = do
   _ ← when (nat_lt code 256)
   Some (if is_mandatory code || is_none (attribute_at route code)
-    then (MINUS_1, route)
-    else (0, without_attribute route code))
+      then (MINUS_1, route)
+      else (0, without_attribute route code))
 
 -- a code and its flags in one number; -1 if there is none
 abbrev pub code_and_flags : Option (ℕ × Attribute) → ℕ

@@ -41,5 +41,5 @@ nowhere = record { addr = 0; len = 0 }
 abbrev pub field_of : Side → Side → ℕ → ℕ
 field_of side local field =
     let fields =
-      side.number ∷ side.asn ∷ side.address ∷ side.id ∷ side.kind ∷ local.asn ∷ local.address ∷ local.id ∷ [] in
+    side.number ∷ side.asn ∷ side.address ∷ side.id ∷ side.kind ∷ local.asn ∷ local.address ∷ local.id ∷ [] in
     slice_index fields field

@@ -1,9 +1,9 @@
 // The helpers on routes.
-ghost use Rattle.std.specs.Prelude.{◌≡◌, ◌≤◌, length, nat_le, option_map, IsSome};
+ghost use Rattle.std.specs.Prelude.{◌≡◌, option_map, IsSome};
 ghost use Rattle.bgp_attr.specs.Routes.{attribute_at};
 ghost use Rattle.bpf_mem.specs.Memory.{writable_at};
-ghost use Rattle.xbgp_helpers.specs.Helping.{chosen_route, copied_attr, del_attr, get_attr, next_attr, part_after};
-ghost use Rattle.xbgp_helpers.specs.Helping.{code_and_flags, set_attr, value_of};
+ghost use Rattle.xbgp_helpers.specs.Helping.{copied_attr, del_attr, get_attr, next_attr, part_after, set_attr};
+ghost use Rattle.xbgp_helpers.specs.Helping.{value_of};
 
 use crate::numbers::{MINUS_1, MINUS_2};
 use crate::ranges::{octet, octets, when};
@@ -33,7 +33,13 @@ fn copy_attr<R: RouteView>(view: &R, code: u8, dst: u64, room: u64, memory: &mut
 }
 
 // Copies an attribute of one route.
-fn get_attr_of<R: RouteView>(view: &R, code: u64, dst: u64, room: u64, memory: &mut Memory<'_>) -> Option<u64>
+fn get_attr_of<R: RouteView>(
+    view: &R,
+    code: u64,
+    dst: u64,
+    room: u64,
+    memory: &mut Memory<'_>,
+) -> Option<u64>
     ensures value { result ≡ value_of (get_attr (R.route view.now) None 0 code dst room memory.old) }
     ensures memory { memory.new ≡ part_after memory.old (get_attr (R.route view.now) None 0 code dst room memory.old) }
     ensures window { memory.new.window ≡ memory.old.window }
@@ -76,7 +82,8 @@ pub(crate) fn set_attr(
     memory: &Memory<'_>,
 ) -> Option<u64>
     ensures value { result ≡ value_of (set_attr route.old.route code flags src len memory.now) }
-    ensures route { route.new.route ≡ part_after route.old.route (set_attr route.old.route code flags src len memory.now) }
+    ensures route { route.new.route
+        ≡ part_after route.old.route (set_attr route.old.route code flags src len memory.now) }
     ensures kept { route.new.kept ≡ route.old.kept }
 {
     let code = octet(code)?;
@@ -102,7 +109,11 @@ pub(crate) fn del_attr(route: &mut Overlay, code: u64) -> Option<u64>
     if ORIGIN <= code && code <= NEXT_HOP {
         return Some(MINUS_1);
     }
-    if route.unset(code) { Some(0) } else { Some(MINUS_1) }
+    if route.unset(code) {
+        Some(0)
+    } else {
+        Some(MINUS_1)
+    }
 }
 
 // The least code of one route that is at least `from`, with its flags.

@@ -42,7 +42,8 @@ impl<'a, A: RouteView, B: RouteView> DecisionWorld<'a, A, B> {
         maps: &'a Maps,
     ) -> DecisionWorld<'a, A, B>
         ensures { ⟦<DecisionWorld<'a, A, B> as Helpers>⟧.state result
-            ≡ shown_at_decision prefix (A.route old.now) old_side.now (B.route new.now) new_side.now local.now maps.now 0 }
+            ≡ shown_at_decision prefix (A.route old.now) old_side.now (B.route new.now) new_side.now local.now
+            maps.now 0 }
     {
         DecisionWorld {
             prefix,

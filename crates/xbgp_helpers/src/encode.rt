@@ -1,5 +1,5 @@
 // The world of programs at encode.
-ghost use Rattle.std.specs.Prelude.{◌≡◌, ◌≤◌, ℕ, length};
+ghost use Rattle.std.specs.Prelude.{◌≡◌, ◌≤◌, length};
 ghost use Rattle.xbgp_helpers.specs.declared.numbers.TheConstants.{MAX_BUFFER};
 
 use crate::attributes::{get_attr, next_attr};

@@ -1,6 +1,7 @@
 // The helpers on parties and prefixes.
 ghost use Rattle.std.specs.Prelude.{◌≡◌, ◌<◌};
-ghost use Rattle.xbgp_helpers.specs.Helping.{get_peer, get_prefix, get_source, part_after, prefix_for_program, value_of};
+ghost use Rattle.xbgp_helpers.specs.Helping.{get_peer, get_prefix, get_source, part_after, value_of};
+ghost use Rattle.xbgp_helpers.specs.Helping.{prefix_for_program};
 ghost use Rattle.xbgp_helpers.specs.Worlds.{field_of};
 
 use crate::numbers::FIELDS;
@@ -35,7 +36,13 @@ pub(crate) fn get_peer(peer: &Side, local: &Side, field: u64) -> Option<u64>
 }
 
 /// Helper 7: a field of the source of a route.
-pub(crate) fn get_source(source: &Side, other: &Side, local: &Side, which: u64, field: u64) -> Option<u64>
+pub(crate) fn get_source(
+    source: &Side,
+    other: &Side,
+    local: &Side,
+    which: u64,
+    field: u64,
+) -> Option<u64>
     ensures { result ≡ get_source source.now other.now local.now which field }
 {
     when(which < 2 && field < FIELDS)?;

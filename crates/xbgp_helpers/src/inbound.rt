@@ -1,5 +1,5 @@
 // The world of programs at inbound.
-ghost use Rattle.std.specs.Prelude.{◌≡◌, ℕ, IsSome};
+ghost use Rattle.std.specs.Prelude.{◌≡◌, IsSome};
 
 use crate::attributes::{del_attr, get_attr, next_attr, set_attr};
 use crate::buffers::alloc;

@@ -18,7 +18,13 @@ fn shape_of(maps: &Maps, map: u64) -> Option<MapShape>
 }
 
 /// Helper 9: copies the value at a key.
-pub(crate) fn map_get(maps: &Maps, map: u64, key: u64, dst: u64, memory: &mut Memory<'_>) -> Option<u64>
+pub(crate) fn map_get(
+    maps: &Maps,
+    map: u64,
+    key: u64,
+    dst: u64,
+    memory: &mut Memory<'_>,
+) -> Option<u64>
     ensures value { result ≡ value_of (map_get maps.now.maps map key dst memory.old) }
     ensures memory { memory.new ≡ part_after memory.old (map_get maps.now.maps map key dst memory.old) }
     ensures window { memory.new.window ≡ memory.old.window }
@@ -37,7 +43,13 @@ pub(crate) fn map_get(maps: &Maps, map: u64, key: u64, dst: u64, memory: &mut Me
 }
 
 /// Helper 10: writes a value at a key.
-pub(crate) fn map_put(maps: &mut Maps, map: u64, key: u64, src: u64, memory: &Memory<'_>) -> Option<u64>
+pub(crate) fn map_put(
+    maps: &mut Maps,
+    map: u64,
+    key: u64,
+    src: u64,
+    memory: &Memory<'_>,
+) -> Option<u64>
     requires { IsSome maps.old.began }
     ensures value { result ≡ value_of (map_put (counted_in maps.old) map key src memory.now) }
     ensures maps { counted_in maps.new

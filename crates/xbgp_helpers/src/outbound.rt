@@ -1,5 +1,5 @@
 // The world of programs at outbound.
-ghost use Rattle.std.specs.Prelude.{◌≡◌, ℕ};
+ghost use Rattle.std.specs.Prelude.{◌≡◌};
 
 use crate::attributes::{del_attr, get_attr, next_attr, set_attr};
 use crate::buffers::alloc;

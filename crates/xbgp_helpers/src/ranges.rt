@@ -1,5 +1,5 @@
 // Ranges of a program's memory, and small numbers.
-ghost use Rattle.std.specs.Prelude.{◌≡◌, ◌<◌, ◌^◌, length, nat_lt, option_map, IsSome, IfSome, if◌then◌else◌};
+ghost use Rattle.std.specs.Prelude.{◌≡◌, length, nat_lt, option_map, IsSome, IfSome, if◌then◌else◌};
 ghost use Rattle.bpf_mem.specs.Memory.{octets_at, writable_at};
 ghost use Rattle.xbgp_helpers.specs.Memories.{written};
 ghost use Rattle.xbgp_helpers.specs.Helping.{said, when};

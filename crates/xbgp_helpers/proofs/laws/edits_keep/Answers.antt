@@ -4,4 +4,5 @@ use Rattle.xbgp_helpers.proofs.RunsLemmas.{bpf-keeps_route}
 use Rattle.xbgp_helpers.proofs.laws.edits_keep.Goals as goal
 
 pub returns : goal.returns
-returns c = λ test set unset point code memory fuel w p. bpf-keeps_route (λ (r : Route). test r ≡ true) set unset point code memory fuel w p
+returns c = λ test set unset point code memory fuel w p. bpf-keeps_route (λ (r : Route). test r ≡ true) set unset
+    point code memory fuel w p
