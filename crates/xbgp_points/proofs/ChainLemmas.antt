@@ -1,8 +1,8 @@
 -- What a chain leaves after a failure, and the programs that it is made of.
 use Rattle.std.proofs.Common.{◌≡◌, ◌∙◌, refl, sym, ap, subst, ℕ, ◌+◌, ◌<◌, suc, Bool, true, false, List, [], ◌∷◌, cond}
-use Rattle.std.proofs.Common.{inl, inr, filter, map, drop, length, Option, Some, None, arith, add-one, zero}
-use Rattle.std.specs.Prelude.{IsTrue, IsSomeAnd, not, ◌&&◌, nat_lt, if◌then◌else◌}
-use Rattle.std.specs.List.{slice_get, AllByRecursion, All}
+use Rattle.std.proofs.Common.{inl, inr, filter, map, drop, length, Option, Some, None, arith, zero}
+use Rattle.std.specs.Prelude.{not, ◌&&◌, nat_lt}
+use Rattle.std.specs.List.{slice_get, AllByRecursion}
 use Rattle.std.specs.Option.{unwrap_or}
 use Rattle.std.proofs.lemmas.Bool.{cases_Bool}
 use Rattle.std.proofs.lemmas.Bool.{eqb-true}
@@ -17,17 +17,14 @@ use Rattle.bpf_insn.specs.Sound.{CallsOnly}
 use Rattle.xbgp_helpers.specs.Worlds.{World}
 use Rattle.xbgp_manifest.specs.Manifests.{Manifest, IsManifest, IsProgram}
 use Rattle.xbgp_manifest.specs.declared.entries.ProgramEntry.{ProgramEntry}
-use Rattle.xbgp_manifest.specs.declared.limits.TheConstants.{MAX_PROGRAMS}
 use Rattle.xbgp_maps.specs.Mappings.{Mapping, Journalled, closed, opened}
 use Rattle.xbgp_view.specs.Views.{Edited}
 use Rattle.xbgp_points.specs.declared.outcome.Outcome.{Outcome}
-use Rattle.xbgp_points.specs.declared.outcome.Outcome.TheVariants.{Verdict, Native, Failed}
-use Rattle.xbgp_points.specs.Chains.{Faults, Chained, after_program, chain, chain_from, exited, failed, is_failed}
+use Rattle.xbgp_points.specs.Chains.{Faults, Chained, after_program, chain_from, failed, is_failed}
 use Rattle.xbgp_points.specs.Chains.{is_listed, output_fits, run_program, numbered, point_number, same_point}
 use Rattle.xbgp_points.specs.Chains.{programs_at}
 use Rattle.xbgp_points.specs.Orders.{numbers_from, picked, IsRunnable, AreRunnable, Leaves, Parts, Ran}
 use Rattle.xbgp_points.specs.declared.work.Work.{Work}
-use Rattle.xbgp_points.proofs.ListLemmas.{drop-at}
 
 -- a chain in which a program failed leaves the world before it
 abbrev FailsBack : World → Chained → Type 0
@@ -47,7 +44,8 @@ module _ (point : Point) (window : List ℕ) (before : World) (noted : Faults) w
   after-back rest program ends.Next w later = later w
   after-back rest program (ends.Failed cause) w later = λ e. refl
 
-  pub chain-back : (ps : List (ℕ × ProgramEntry)) (w : World) → FailsBack before (chain_from point window before noted ps w)
+  pub chain-back : (ps : List (ℕ × ProgramEntry)) (w : World)
+      → FailsBack before (chain_from point window before noted ps w)
   chain-back [] w = λ e. absurd (cc e)
   chain-back (p ∷ ps) w =
       let ended = run_program point window p.1 w in
@@ -104,8 +102,8 @@ pub picked-programs_at : (m : Manifest) (point : Point)
     → picked m.programs (numbers_from point 0 m.programs) ≡ programs_at m point
 picked-programs_at m point =
     picked-numbers m.programs (programs_at m point)
-      (All-filter (IsAt m.programs) (IsAt m.programs) (λ p. same_point (p.1).point point) (numbered 0 m.programs)
-        (λ x at e. at) (numbered-at m.programs 0 m.programs refl))
+    (All-filter (IsAt m.programs) (IsAt m.programs) (λ p. same_point (p.1).point point) (numbered 0 m.programs)
+    (λ x at e. at) (numbered-at m.programs 0 m.programs refl))
 
 -- a point of a number
 point_of : ℕ → Point
@@ -132,21 +130,21 @@ pub runnable-numbers : (m : Manifest) (point : Point) → IsManifest m
     → AreRunnable point m.programs (numbers_from point 0 m.programs)
 runnable-numbers m point is =
     All-map (IsRunnable point m.programs) (λ (q : ℕ × ProgramEntry). q.0) (programs_at m point)
-      (All-filter (IsAt m.programs) (λ (q : ℕ × ProgramEntry). IsRunnable point m.programs q.0)
-        (λ p. same_point (p.1).point point) (numbered 0 m.programs)
-        (λ q at e.
-          let within : q.0 < length m.programs = slice_get_within m.programs q.0 q.1 at in
-          let program : IsProgram q.1 =
-            subst IsProgram (get_or_from_slice_get m.programs q.0 q.1 q.1 at) (is.programs q.0 q.1 within) in
-          let calls : CallsOnly (helper_allowed point) (q.1).code =
-            subst (λ (p : Point). CallsOnly (helper_allowed p) (q.1).code) (same-point (q.1).point point e)
-              program.calls in
-          record {
-            few = omega (arith, within, is.few_programs);
-            within = within;
-            calls = rw at calls;
-          })
-        (numbered-at m.programs 0 m.programs refl))
+    (All-filter (IsAt m.programs) (λ (q : ℕ × ProgramEntry). IsRunnable point m.programs q.0)
+    (λ p. same_point (p.1).point point) (numbered 0 m.programs)
+    (λ q at e.
+    let within : q.0 < length m.programs = slice_get_within m.programs q.0 q.1 at in
+    let program : IsProgram q.1 =
+    subst IsProgram (get_or_from_slice_get m.programs q.0 q.1 q.1 at) (is.programs q.0 q.1 within) in
+    let calls : CallsOnly (helper_allowed point) (q.1).code =
+    subst (λ (p : Point). CallsOnly (helper_allowed p) (q.1).code) (same-point (q.1).point point e)
+    program.calls in
+    record {
+      few = omega (arith, within, is.few_programs);
+      within = within;
+      calls = rw at calls;
+    })
+    (numbered-at m.programs 0 m.programs refl))
 
 -- what a chain leaves, once all is taken back if a program failed
 module _ (c : Chained) (before : World) (left : Parts) (given : Outcome) (noted : Faults) (back : FailsBack before c)
@@ -162,12 +160,12 @@ module _ (c : Chained) (before : World) (left : Parts) (given : Outcome) (noted 
         outcome = leaves.outcome;
         route = route_is ∙ ap (λ b. cond b before.route left.route) failed ∙ ap (λ (v : World). v.route) (sym world);
         maps =
-          maps_are ∙ ap (λ b. closed (cond b before.maps left.maps)) failed
-          ∙ ap (λ (v : World). closed v.maps) (sym world);
+            maps_are ∙ ap (λ b. closed (cond b before.maps left.maps)) failed
+            ∙ ap (λ (v : World). closed v.maps) (sym world);
         faults = faults_are ∙ leaves.faults;
         wrote =
-          wrote_is ∙ ap (λ b. not b && nat_lt 0 left.writes) failed
-          ∙ sym (ap (λ b. not b && nat_lt 0 (c.world).writes) same);
+            wrote_is ∙ ap (λ b. not b && nat_lt 0 left.writes) failed
+            ∙ sym (ap (λ b. not b && nat_lt 0 (c.world).writes) same);
       }
 
   ran-kept : is_failed given ≡ false → Ran c given edited w
@@ -177,11 +175,11 @@ module _ (c : Chained) (before : World) (left : Parts) (given : Outcome) (noted 
         outcome = leaves.outcome;
         route = route_is ∙ ap (λ b. cond b before.route left.route) kept ∙ ap (λ (v : Parts). v.route) parts;
         maps =
-          maps_are ∙ ap (λ b. closed (cond b before.maps left.maps)) kept ∙ ap (λ (v : Parts). closed v.maps) parts;
+            maps_are ∙ ap (λ b. closed (cond b before.maps left.maps)) kept ∙ ap (λ (v : Parts). closed v.maps) parts;
         faults = faults_are ∙ leaves.faults;
         wrote =
-          wrote_is ∙ ap (λ (o : Outcome). not (is_failed o) && nat_lt 0 left.writes) leaves.outcome
-          ∙ ap (λ (v : Parts). not (is_failed c.outcome) && nat_lt 0 v.writes) parts;
+            wrote_is ∙ ap (λ (o : Outcome). not (is_failed o) && nat_lt 0 left.writes) leaves.outcome
+            ∙ ap (λ (v : Parts). not (is_failed c.outcome) && nat_lt 0 v.writes) parts;
       }
 
   pub ran : Ran c given edited w
@@ -196,7 +194,7 @@ module _ (before : World) (left : Parts) (given : Outcome) (r0 r1 r2 r3 : Edited
   route-after =
       ap (λ (r : Edited). r.route) back_is
       ∙ ap (λ (r : Route). cond (is_failed given) r r2.route)
-        (still_kept ∙ ap (λ (r : Edited). r.kept) kept_is ∙ sym (before_route ∙ ap (λ (r : Edited). r.route) kept_is))
+      (still_kept ∙ ap (λ (r : Edited). r.kept) kept_is ∙ sym (before_route ∙ ap (λ (r : Edited). r.route) kept_is))
       ∙ ap (λ (r : Route). cond (is_failed given) before.route r) (sym left_route)
 
 -- and of one that may write to maps
@@ -208,8 +206,8 @@ module _ (before : World) (left : Parts) (given : Outcome) (m0 m1 m2 m3 : Journa
   maps-after =
       closed_is
       ∙ ap (λ (m : List Mapping). closed (cond (is_failed given) m m2.maps))
-        (ap (λ (o : Option (List Mapping)). unwrap_or o []) (still_open ∙ ap (λ (m : Journalled). m.began) opened_is)
-          ∙ sym (before_maps ∙ ap (λ (m : Journalled). m.maps) opened_is))
+      (ap (λ (o : Option (List Mapping)). unwrap_or o []) (still_open ∙ ap (λ (m : Journalled). m.began) opened_is)
+      ∙ sym (before_maps ∙ ap (λ (m : Journalled). m.maps) opened_is))
       ∙ ap (λ (m : List Mapping). closed (cond (is_failed given) before.maps m)) (sym left_maps)
 
 -- what no program changes, and no write to a map

@@ -45,7 +45,8 @@ module _ (point : Point) (window : List ℕ) (w : World) (noted : Faults) (progr
   still-shapes = ap (λ (m : Journalled). shapes_of m.maps) ran.maps ∙ chain-shapes point window noted programs w
 
 -- what the engine gives
-module _ (c d : Chained) (old new : Kept) (given : Outcome) (edited : Route) (work : Work) (ran : Ran c given edited work)
+module _ (c d : Chained) (old new : Kept) (given : Outcome) (edited : Route) (work : Work)
+    (ran : Ran c given edited work)
     (same : c ≡ d)
     (new_is : new ≡ record old {
       engine = record { maps = (work.maps).maps; faults = work.faults };
@@ -56,19 +57,19 @@ module _ (c d : Chained) (old new : Kept) (given : Outcome) (edited : Route) (wo
     outcome = ran.outcome;
     route = ran.route;
     after =
-      new_is
-      ∙ ap (λ (m : Journalled). let k : Kept = record old {
-        engine = record { maps = m.maps; faults = work.faults };
-        wrote = work.wrote;
-      } in k) ran.maps
-      ∙ ap (λ (f : Faults). let k : Kept = record old {
-        engine = record { maps = (c.world).maps; faults = f };
-        wrote = work.wrote;
-      } in k) ran.faults
-      ∙ ap (λ (b : Bool). let k : Kept = record old {
-        engine = record { maps = (c.world).maps; faults = c.faults };
-        wrote = b;
-      } in k) ran.wrote;
+        new_is
+        ∙ ap (λ (m : Journalled). let k : Kept = record old {
+          engine = record { maps = m.maps; faults = work.faults };
+          wrote = work.wrote;
+        } in k) ran.maps
+        ∙ ap (λ (f : Faults). let k : Kept = record old {
+          engine = record { maps = (c.world).maps; faults = f };
+          wrote = work.wrote;
+        } in k) ran.faults
+        ∙ ap (λ (b : Bool). let k : Kept = record old {
+          engine = record { maps = (c.world).maps; faults = c.faults };
+          wrote = b;
+        } in k) ran.wrote;
   }
 
   pub answers : Answers (called d) old new given edited
@@ -118,8 +119,8 @@ undone-by : (o given : Outcome) (c : Chained) (before : World) (old new : Kept) 
     → Answers (called c) old new given edited → IsUndone o old new before.route edited
 undone-by (Verdict v) given c before old new edited is same back maps given_is = tt
 undone-by Native given c before old new edited is same back maps given_is = tt
-undone-by (Failed program cause) given c before old new edited is same back maps given_is =
-    (given_is.after
+undone-by (Failed program cause) given c before old new edited is same back maps given_is = (
+  given_is.after
       ∙ ap (λ (v : World). let k : Kept = record old {
         engine = record { maps = v.maps; faults = c.faults };
         wrote = not (is_failed c.outcome) && nat_lt 0 (c.world).writes;
@@ -136,7 +137,8 @@ undone-by (Failed program cause) given c before old new edited is same back maps
         engine = record (old.engine) { faults = with_fault (old.engine).faults program cause };
         wrote = not (is_failed x) && nat_lt 0 (c.world).writes;
       } in k) (sym same),
-      given_is.route ∙ ap (λ (v : World). v.route) back.0)
+  given_is.route ∙ ap (λ (v : World). v.route) back.0,
+)
 
 pub undone : (m : Manifest) (point : Point) (window : List ℕ) (w : World) (old new : Kept) (given : Outcome)
     (edited : Route) → w.maps ≡ (old.engine).maps
@@ -145,6 +147,6 @@ pub undone : (m : Manifest) (point : Point) (window : List ℕ) (w : World) (old
 undone m point window w old new given edited maps given_is =
     let c = chain m point window w (old.engine).faults in
     let back =
-      subst (λ (o : Outcome). IsBack w (old.engine).faults o c.world c.faults) (sym given_is.outcome)
-        (back-chain m point window w (old.engine).faults) in
+    subst (λ (o : Outcome). IsBack w (old.engine).faults o c.world c.faults) (sym given_is.outcome)
+    (back-chain m point window w (old.engine).faults) in
     undone-by given given c w old new edited refl given_is.outcome back maps given_is

@@ -49,9 +49,9 @@ module _ (m : Manifest) (point : Point) (window : List ℕ) (w : World) (noted :
   unfolding chain
   chain_changes =
       chain-keeps point (IsChanged point w)
-        (λ code memory fuel v h. changed-then point w v _ h (bpf-changed point code memory fuel v))
-        (λ v h. changed-free point w v h) window w noted (programs_at m point) w (changed-same point w)
-        (changed-same point w)
+      (λ code memory fuel v h. changed-then point w v _ h (bpf-changed point code memory fuel v))
+      (λ v h. changed-free point w v h) window w noted (programs_at m point) w (changed-same point w)
+      (changed-same point w)
 
   pub chain_keeps_route : IsRoute w.route → KeepsRoute w.route ((chain m point window w noted).world).route
   unfolding chain

@@ -1,11 +1,11 @@
 -- The shapes of maps, which no chain changes.
-use Rattle.std.proofs.Common.{◌≡◌, ◌∙◌, refl, sym, ap, ℕ, Bool, true, false, List, [], ◌∷◌, length, Option, Some, None}
+use Rattle.std.proofs.Common.{◌≡◌, ◌∙◌, refl, ap, ℕ, Bool, true, false, List, [], ◌∷◌, Option, Some, None}
 use Rattle.std.proofs.Common.{nat_lt, cond, slice_index, ◌==◌}
 use Rattle.xb_words.specs.Optional.{◌>>=◌}
 use Rattle.xb_domain.specs.Points.{helper_allowed}
 use Rattle.xb_domain.specs.declared.point.Point.{Point}
 use Rattle.bpf_mem.specs.Memory.{Memory, octets_at}
-use Rattle.bpf_machine.specs.Running.{CallResult, bpf}
+use Rattle.bpf_machine.specs.Running.{CallResult}
 use Rattle.xbgp_maps.specs.declared.limits.TheConstants.{MAX_MAPS}
 use Rattle.xbgp_maps.specs.declared.shape.MapShape.{MapShape}
 use Rattle.xbgp_maps.specs.declared.shape.Put.{Put}
@@ -101,13 +101,13 @@ unfolding help
 help-shapes shapes point number args memory w same =
     let arg = slice_index args in
     by_test (λ (r : CallResult World). HasShapes shapes r.world) (helper_allowed point number) _ _
-      (λ _. helped-shapes shapes point number (arg 0) (arg 1) (arg 2) (arg 3) memory w same) (λ _. same)
+    (λ _. helped-shapes shapes point number (arg 0) (arg 1) (arg 2) (arg 3) memory w same) (λ _. same)
 
 -- a chain keeps the shapes of the maps
 pub chain-shapes : (point : Point) (window : List ℕ) (noted : Faults) (ps : List (ℕ × ProgramEntry)) (w : World)
     → shapes_of ((chain_from point window w noted ps w).world).maps ≡ shapes_of w.maps
 chain-shapes point window noted ps w =
     chain-keeps point (HasShapes (shapes_of w.maps))
-      (λ code memory fuel v h.
-        bpf-keeps (HasShapes (shapes_of w.maps)) (help point) code (help-shapes (shapes_of w.maps) point) memory fuel v h)
-      (λ v h. h) window w noted ps w refl refl
+    (λ code memory fuel v h.
+    bpf-keeps (HasShapes (shapes_of w.maps)) (help point) code (help-shapes (shapes_of w.maps) point) memory fuel v h)
+    (λ v h. h) window w noted ps w refl refl

@@ -1,13 +1,11 @@
 -- The codes of a section, and the section that a chain at encode gives.
-use Rattle.std.proofs.Common.{◌≡◌, ◌∙◌, inl, inr, refl, sym, ap, ℕ, ◌+◌, Bool, true, false, List, [], ◌∷◌, ◌++◌, cond}
-use Rattle.std.proofs.Common.{length, map, Option, Some, None, Result, Ok, Err, ◌==◌, ◌||◌}
-use Rattle.std.specs.Prelude.{IfSome, IsTrue, is_some}
-use Rattle.std.proofs.lemmas.Bool.{cases_Bool}
+use Rattle.std.proofs.Common.{◌≡◌, ◌∙◌, refl, ap, ℕ, ◌+◌, Bool, true, false, List, [], ◌∷◌, cond}
+use Rattle.std.proofs.Common.{length, map, Result, Ok, Err, ◌==◌, ◌||◌}
+use Rattle.std.specs.Prelude.{IfSome, IsTrue}
 use Rattle.xb_words.specs.Cut.{cut, walk, walk_from}
 use Rattle.xb_domain.specs.declared.point.Point.TheVariants.{Encode}
 use Rattle.bgp_attr.specs.declared.attrs.Overrun.{Overrun}
-use Rattle.bgp_attr.specs.Attributes.{attributes, attribute_size, attr_code, codes_of}
-use Rattle.bgp_attr.specs.Routes.{Route}
+use Rattle.bgp_attr.specs.Attributes.{attribute_size, attr_code, codes_of}
 use Rattle.bgp_attr.specs.Walks.{FoundAttr, found_attr, overrun, attributes_from}
 use Rattle.bgp_check.specs.Judgement.{has_code}
 use Rattle.bpf_machine.specs.declared.world.End.{End}
@@ -16,7 +14,7 @@ use Rattle.xbgp_helpers.specs.Worlds.{World}
 use Rattle.xbgp_manifest.specs.declared.entries.ProgramEntry.{ProgramEntry}
 use Rattle.xbgp_points.specs.declared.outcome.Outcome.{Outcome}
 use Rattle.xbgp_points.specs.declared.outcome.Outcome.TheVariants.{Verdict, Native, Failed}
-use Rattle.xbgp_points.specs.Chains.{Faults, Chained, after_program, chain_from, encoded, is_listed, is_sendable}
+use Rattle.xbgp_points.specs.Chains.{Faults, Chained, after_program, chain_from, is_listed, is_sendable}
 use Rattle.xbgp_points.specs.Chains.{output_fits, run_program}
 use Rattle.xbgp_points.specs.Orders.{Leaves, Parts}
 use Rattle.xbgp_points.specs.Points.{section_by}

@@ -1,5 +1,5 @@
 -- The programs of a point by their numbers, and what a chain of them leaves (for private functions).
-use Rattle.std.specs.Prelude.{◌≡◌, ℕ, ◌<◌, false, List, [], ◌∷◌, length, map, filter, Option, Some, None, IsSomeAnd}
+use Rattle.std.specs.Prelude.{◌≡◌, ℕ, ◌<◌, false, List, [], ◌∷◌, length, map, filter, Some, None, IsSomeAnd}
 use Rattle.std.specs.Prelude.{nat_lt, not, ◌&&◌, ◌==◌, ◌++◌, if◌then◌else◌}
 use Rattle.std.specs.List.{slice_get, AllByRecursion}
 use Rattle.xb_domain.specs.declared.point.Point.{Point}

@@ -87,7 +87,7 @@ pub(crate) fn run_chain<S: Site>(
     requires programs { AreRunnable S.point programs.now numbers.now }
     ensures left { Leaves
         (chain_from S.point window.now (S.world site.old) faults.old (picked programs.now numbers.now)
-            (S.world site.old))
+        (S.world site.old))
         result faults.new (parts_of (S.world site.new)) }
     ensures fixed { S.fixed site.new ≡ S.fixed site.old }
 {

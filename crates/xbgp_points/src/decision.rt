@@ -55,7 +55,7 @@ fn run_program<A: RouteView, B: RouteView>(
     requires calls { CallsOnly (helper_allowed Decision) program.now.code }
     requires window { length window.now ≤ MAX_WINDOW }
     ensures { let shown = shown_at_decision prefix (A.route old.now) old_side.now (B.route new.now) new_side.now
-            local.now maps.now 0 in
+        local.now maps.now 0 in
         result ≡ (bpf (help Decision) program.now.code (fresh window.now) program.now.fuel shown.world).end }
 {
     let mut memory = Memory::over(room, window);
@@ -115,7 +115,7 @@ fn run_programs<A: RouteView, B: RouteView>(
 ) -> Outcome
     requires { AreRunnable Decision programs.now numbers.now }
     ensures { let shown = shown_at_decision prefix (A.route old.now) old_side.now (B.route new.now) new_side.now
-            local.now maps.now 0 in
+        local.now maps.now 0 in
         let world = shown.world in
         let parts : Parts = record {
           route = A.route old.now;
@@ -124,7 +124,7 @@ fn run_programs<A: RouteView, B: RouteView>(
           buffer = [];
         } in
         Leaves (chain_from Decision [] world faults.old (picked programs.now numbers.now) world)
-            result faults.new parts }
+        result faults.new parts }
 {
     let mut site = DecisionSite {
         prefix,
@@ -153,10 +153,10 @@ fn chain_at_decision<A: RouteView, B: RouteView>(
     requires numbers { AreRunnable Decision programs.now numbers.now }
     requires closed { work.old.maps ≡ closed work.old.maps.maps }
     ensures ran { let shown = shown_at_decision prefix (A.route old.now) old_side.now (B.route new.now) new_side.now
-            local.now work.old.maps 0 in
+        local.now work.old.maps 0 in
         let world = shown.world in
         Ran (chain_from Decision [] world work.old.faults (picked programs.now numbers.now) world)
-            result (A.route old.now) work.new }
+        result (A.route old.now) work.new }
     ensures section { work.new.section ≡ work.old.section }
 {
     work.wrote = false;
@@ -193,10 +193,10 @@ pub(crate) fn at_decision<A: RouteView, B: RouteView>(
     requires orders { AreOrders manifest.now.programs orders.now }
     requires closed { work.old.maps ≡ closed work.old.maps.maps }
     ensures ran { let shown = shown_at_decision prefix (A.route old.now) old_side.now (B.route new.now) new_side.now
-            local.now work.old.maps 0 in
+        local.now work.old.maps 0 in
         let world = shown.world in
         Ran (chain manifest.now Decision [] world work.old.faults)
-            result (A.route old.now) work.new }
+        result (A.route old.now) work.new }
     ensures section { work.new.section ≡ work.old.section }
     ensures closed { work.new.maps ≡ closed work.new.maps.maps }
     ensures shapes { shapes_of work.new.maps.maps ≡ shapes_of work.old.maps.maps }

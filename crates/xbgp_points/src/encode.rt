@@ -71,10 +71,10 @@ fn run_program<R: RouteView>(
     requires short { length buffer.old.octets ≤ MAX_BUFFER }
     requires window { length window.now ≤ MAX_WINDOW }
     ensures end { let shown = shown_at_encode peer.now source.now (R.route best.now) route.now.route buffer.old
-            local.now maps.now 0 in
+        local.now maps.now 0 in
         result ≡ (bpf (help Encode) program.now.code (fresh window.now) program.now.fuel shown.world).end }
     ensures buffer { let shown = shown_at_encode peer.now source.now (R.route best.now) route.now.route buffer.old
-            local.now maps.now 0 in
+        local.now maps.now 0 in
         let left = (bpf (help Encode) program.now.code (fresh window.now) program.now.fuel shown.world).world in
         buffer.new ≡ record buffer.old { octets = left.buffer } }
 {
@@ -97,8 +97,14 @@ impl<'a, R: RouteView> Site for EncodeSite<'a, R> {
 
     ghost Fixed = { Route × Journalled × ℕ × ℕ × ℕ × ℕ };
 
-    ghost fixed = { λ s. (s.route.now.route, s.maps.now, s.buffer.now.capacity, s.section.now.capacity,
-        s.buffer.ghost_name, s.section.ghost_name) };
+    ghost fixed = { λ s. (
+      s.route.now.route,
+      s.maps.now,
+      s.buffer.now.capacity,
+      s.section.now.capacity,
+      s.buffer.ghost_name,
+      s.section.ghost_name,
+    ) };
 
     #[tactic(auto, using(crate::proofs::SiteLemmas::left_at_encode, crate::proofs::SiteLemmas::short_after))]
     fn run(&mut self, program: &ProgramEntry, window: &[u8], room: &mut Room) -> End {
@@ -144,7 +150,7 @@ fn run_programs<R: RouteView>(
     requires native { native.now ≡ native_section route.now.route }
     requires section { MAX_CANONICAL ≤ section.old.capacity }
     ensures left { let shown = shown_at_encode peer.now source.now (R.route best.now) route.now.route out.old local.now
-            maps.now 0 in
+        maps.now 0 in
         let world = shown.world in
         let parts : Parts = record {
           route = route.now.route;
@@ -153,7 +159,7 @@ fn run_programs<R: RouteView>(
           buffer = out.new.octets;
         } in
         Leaves (chain_from Encode [] world faults.old (picked programs.now numbers.now) world)
-            result faults.new parts }
+        result faults.new parts }
     ensures out { out.new.capacity ≡ out.old.capacity }
     ensures section { section.new.capacity ≡ section.old.capacity }
 {
@@ -210,12 +216,12 @@ fn chain_at_encode<R: RouteView>(
     requires native { native.now ≡ native_section route.now.route }
     requires section { MAX_CANONICAL ≤ work.old.section.capacity }
     ensures ran { let shown = shown_at_encode peer.now source.now (R.route best.now) route.now.route out.old local.now
-            work.old.maps 0 in
+        work.old.maps 0 in
         let world = shown.world in
         Ran (chain_from Encode [] world work.old.faults (picked programs.now numbers.now) world)
-            result route.now.route work.new }
+        result route.now.route work.new }
     ensures out { let shown = shown_at_encode peer.now source.now (R.route best.now) route.now.route out.old local.now
-            work.old.maps 0 in
+        work.old.maps 0 in
         let world = shown.world in
         let c = chain_from Encode [] world work.old.faults (picked programs.now numbers.now) world in
         out.new ≡ record out.old { octets = unwrap_or (section_by c.outcome c.world.route c.world.buffer) [] } }
@@ -264,12 +270,12 @@ pub(crate) fn at_encode<R: RouteView>(
     requires native { native.now ≡ native_section route.now.route }
     requires section { MAX_CANONICAL ≤ work.old.section.capacity }
     ensures ran { let shown = shown_at_encode peer.now source.now (R.route best.now) route.now.route out.old local.now
-            work.old.maps 0 in
+        work.old.maps 0 in
         let world = shown.world in
         Ran (chain manifest.now Encode [] world work.old.faults)
-            result route.now.route work.new }
+        result route.now.route work.new }
     ensures out { let shown = shown_at_encode peer.now source.now (R.route best.now) route.now.route out.old local.now
-            work.old.maps 0 in
+        work.old.maps 0 in
         let world = shown.world in
         let c = chain manifest.now Encode [] world work.old.faults in
         out.new ≡ record out.old { octets = unwrap_or (section_by c.outcome c.world.route c.world.buffer) [] } }

@@ -88,7 +88,15 @@ impl<'a> Site for InboundSite<'a> {
     #[tactic(auto, using(crate::proofs::SiteLemmas::left_at_inbound))]
     fn run(&mut self, program: &ProgramEntry, window: &[u8], room: &mut Room) -> End {
         run_program(
-            program, window, room, self.now, self.peer, self.prefix, self.route, self.local, self.maps,
+            program,
+            window,
+            room,
+            self.now,
+            self.peer,
+            self.prefix,
+            self.route,
+            self.local,
+            self.maps,
         )
     }
 
@@ -120,7 +128,7 @@ fn run_programs(
           buffer = [];
         } in
         Leaves (chain_from Inbound [] world faults.old (picked programs.now numbers.now) world)
-            result faults.new parts }
+        result faults.new parts }
     ensures kept { route.new.kept ≡ route.old.kept }
     ensures began { maps.new.began ≡ maps.old.began }
 {
@@ -150,7 +158,7 @@ fn chain_at_inbound(
     requires closed { work.old.maps ≡ closed work.old.maps.maps }
     ensures ran { let world = (shown_at_inbound now peer.now prefix route.old local.now work.old.maps 0).world in
         Ran (chain_from Inbound [] world work.old.faults (picked programs.now numbers.now) world)
-            result route.new.route work.new }
+        result route.new.route work.new }
     ensures keeps { KeepsRoute route.old.route route.new.route }
     ensures section { work.new.section ≡ work.old.section }
 {
@@ -194,7 +202,7 @@ pub(crate) fn at_inbound(
     requires closed { work.old.maps ≡ closed work.old.maps.maps }
     ensures ran { let world = (shown_at_inbound now peer.now prefix route.old local.now work.old.maps 0).world in
         Ran (chain manifest.now Inbound [] world work.old.faults)
-            result route.new.route work.new }
+        result route.new.route work.new }
     ensures keeps { KeepsRoute route.old.route route.new.route }
     ensures section { work.new.section ≡ work.old.section }
     ensures closed { work.new.maps ≡ closed work.new.maps.maps }

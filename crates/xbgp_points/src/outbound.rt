@@ -56,10 +56,12 @@ fn run_program<R: RouteView>(
 ) -> End
     requires calls { CallsOnly (helper_allowed Outbound) program.now.code }
     requires window { length window.now ≤ MAX_WINDOW }
-    ensures end { let shown = shown_at_outbound peer.now source.now prefix (R.route best.now) route.old local.now maps.now 0 in
+    ensures end { let shown = shown_at_outbound peer.now source.now prefix (R.route best.now) route.old local.now
+        maps.now 0 in
         let world = shown.world in
         result ≡ (bpf (help Outbound) program.now.code (fresh window.now) program.now.fuel world).end }
-    ensures route { let shown = shown_at_outbound peer.now source.now prefix (R.route best.now) route.old local.now maps.now 0 in
+    ensures route { let shown = shown_at_outbound peer.now source.now prefix (R.route best.now) route.old local.now
+        maps.now 0 in
         let world = shown.world in
         let left = (bpf (help Outbound) program.now.code (fresh window.now) program.now.fuel world).world in
         route.new ≡ record route.old { route = left.route } }
@@ -78,8 +80,8 @@ impl<'a, R: RouteView> Site for OutboundSite<'a, R> {
 
     ghost point = { Outbound };
 
-    ghost world = { λ s. (shown_at_outbound s.peer.now s.source.now s.prefix (R.route s.best.now) s.route.now s.local.now
-        s.maps.now 0).world };
+    ghost world = { λ s. (shown_at_outbound s.peer.now s.source.now s.prefix (R.route s.best.now) s.route.now
+        s.local.now s.maps.now 0).world };
 
     ghost Fixed = { Route × Journalled × ℕ };
 
@@ -121,7 +123,8 @@ fn run_programs<R: RouteView>(
     maps: &Maps,
 ) -> Outcome
     requires numbers { AreRunnable Outbound programs.now numbers.now }
-    ensures left { let shown = shown_at_outbound peer.now source.now prefix (R.route best.now) route.old local.now maps.now 0 in
+    ensures left { let shown = shown_at_outbound peer.now source.now prefix (R.route best.now) route.old local.now
+        maps.now 0 in
         let world = shown.world in
         let parts : Parts = record {
           route = route.new.route;
@@ -130,7 +133,7 @@ fn run_programs<R: RouteView>(
           buffer = [];
         } in
         Leaves (chain_from Outbound [] world faults.old (picked programs.now numbers.now) world)
-            result faults.new parts }
+        result faults.new parts }
     ensures kept { route.new.kept ≡ route.old.kept }
 {
     let mut site = OutboundSite {
@@ -160,10 +163,10 @@ fn chain_at_outbound<R: RouteView>(
     requires numbers { AreRunnable Outbound programs.now numbers.now }
     requires closed { work.old.maps ≡ closed work.old.maps.maps }
     ensures ran { let shown = shown_at_outbound peer.now source.now prefix (R.route best.now) route.old local.now
-            work.old.maps 0 in
+        work.old.maps 0 in
         let world = shown.world in
         Ran (chain_from Outbound [] world work.old.faults (picked programs.now numbers.now) world)
-            result route.new.route work.new }
+        result route.new.route work.new }
     ensures keeps { KeepsRoute route.old.route route.new.route }
     ensures section { work.new.section ≡ work.old.section }
 {
@@ -206,10 +209,10 @@ pub(crate) fn at_outbound<R: RouteView>(
     requires orders { AreOrders manifest.now.programs orders.now }
     requires closed { work.old.maps ≡ closed work.old.maps.maps }
     ensures ran { let shown = shown_at_outbound peer.now source.now prefix (R.route best.now) route.old local.now
-            work.old.maps 0 in
+        work.old.maps 0 in
         let world = shown.world in
         Ran (chain manifest.now Outbound [] world work.old.faults)
-            result route.new.route work.new }
+        result route.new.route work.new }
     ensures keeps { KeepsRoute route.old.route route.new.route }
     ensures section { work.new.section ≡ work.old.section }
     ensures closed { work.new.maps ≡ closed work.new.maps.maps }

@@ -118,7 +118,7 @@ fn run_programs(
           buffer = [];
         } in
         Leaves (chain_from Receive body.now world faults.old (picked programs.now numbers.now) world)
-            result faults.new parts }
+        result faults.new parts }
     ensures kept { route.new.kept ≡ route.old.kept }
     ensures began { maps.new.began ≡ maps.old.began }
 {
@@ -148,7 +148,7 @@ fn chain_at_receive(
     requires body { length body.now ≤ MAX_WINDOW }
     ensures ran { let world = (shown_at_receive now peer.now route.old local.now work.old.maps 0).world in
         Ran (chain_from Receive body.now world work.old.faults (picked programs.now numbers.now) world)
-            result route.new.route work.new }
+        result route.new.route work.new }
     ensures keeps { KeepsRoute route.old.route route.new.route }
     ensures section { work.new.section ≡ work.old.section }
 {
@@ -193,7 +193,7 @@ pub(crate) fn at_receive(
     requires body { length body.now ≤ MAX_WINDOW }
     ensures ran { let world = (shown_at_receive now peer.now route.old local.now work.old.maps 0).world in
         Ran (chain manifest.now Receive body.now world work.old.faults)
-            result route.new.route work.new }
+        result route.new.route work.new }
     ensures keeps { KeepsRoute route.old.route route.new.route }
     ensures section { work.new.section ≡ work.old.section }
     ensures closed { work.new.maps ≡ closed work.new.maps.maps }

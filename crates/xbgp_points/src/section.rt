@@ -5,8 +5,8 @@ ghost use Rattle.bgp_attr.specs.Attributes.{codes_of};
 ghost use Rattle.bgp_check.specs.Judgement.{has_code as has_attribute, is_clean as is_good};
 ghost use Rattle.xbgp_points.specs.Orders.{section_of};
 
-use bgp_attr::codes::{AS4_AGGREGATOR, AS4_PATH};
 use bgp_attr::Attrs;
+use bgp_attr::codes::{AS4_AGGREGATOR, AS4_PATH};
 use bgp_check::check_section4;
 use xb_values::Buf;
 use xb_wire::numbers::MAX_SECTION;

@@ -1,5 +1,4 @@
 -- A map's shape is appended, and the map is no longer left.
-use Rattle.std.proofs.Common.{◌≡◌, sym, subst}
 use Rattle.xbgp_manifest.specs.Manifests.{entry_shapes}
 use Rattle.xbgp_manifest.specs.declared.entries.MapEntry.{MapEntry}
 use Rattle.xbgp_points.proofs.ListLemmas.{map-drop-at}

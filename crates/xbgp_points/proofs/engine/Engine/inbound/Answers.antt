@@ -1,16 +1,13 @@
 -- The engine gives what its chain gives.
-use Rattle.std.proofs.Common.{◌≡◌, ◌∙◌, refl, sym, ap, subst, List, ℕ, []}
-use Rattle.std.specs.Prelude.{IfSome, IsTrue}
+use Rattle.std.proofs.Common.{refl, ap, subst, []}
 use Rattle.xb_domain.specs.declared.point.Point.TheVariants.{Inbound}
-use Rattle.xb_values.specs.Buffers.{Buffer}
 use Rattle.xbgp_helpers.specs.Shows.{shown_at_inbound}
-use Rattle.xbgp_helpers.specs.Worlds.{nobody, nowhere}
+use Rattle.xbgp_helpers.specs.Worlds.{nobody}
 use Rattle.xbgp_maps.specs.Mappings.{Journalled, closed}
-use Rattle.xbgp_points.specs.Chains.{Chained, chain, is_sendable, programs_at}
+use Rattle.xbgp_points.specs.Chains.{chain}
 use Rattle.xbgp_points.specs.Engines.{Answers, Kept}
-use Rattle.xbgp_points.specs.Points.{called, given_section, section_by, section_left, world_of, inbound}
+use Rattle.xbgp_points.specs.Points.{world_of, inbound}
 use Rattle.xbgp_points.proofs.EngineLemmas.{answers, undone}
-use Rattle.xbgp_points.proofs.SectionLemmas.{chain-sends}
 use Rattle.xbgp_points.proofs.engine.Engine.inbound.Goals as goal
 
 pub returns-clause-answers : goal.returns-clause-answers
@@ -20,7 +17,7 @@ returns-clause-answers c =
     let noted = c.self.inside.work.faults in
     let left = c.at_inbound.new.work in
     let world = λ (m : Journalled).
-      (shown_at_inbound c.args.now c.args.peer.now c.args.prefix c.args.route.now c.self.inside.local m 0).world in
+    (shown_at_inbound c.args.now c.args.peer.now c.args.prefix c.args.route.now c.self.inside.local m 0).world in
     let old : Kept = record {
       manifest = manifest;
       local = c.self.inside.local;
@@ -31,17 +28,18 @@ returns-clause-answers c =
       engine = record { maps = (left.maps).maps; faults = left.faults };
       wrote = left.wrote;
     } in
-    subst (λ (k : Kept). Answers (inbound k.manifest k.local k.engine c.args.now c.args.peer.now c.args.prefix c.args.route.now.route) k
-          new c.at_inbound.result c.at_inbound.new.route.route) c.self.view_is
-      (answers (chain manifest Inbound [] (world maps) noted) (chain manifest Inbound [] (world (closed maps.maps)) noted)
-        old new c.at_inbound.result c.at_inbound.new.route.route left c.at_inbound.ensures.ran
-        (ap (λ (m : Journalled). chain manifest Inbound [] (world m) noted) c.self.invariant.1)
-        refl)
+    subst (λ (k : Kept). Answers
+    (inbound k.manifest k.local k.engine c.args.now c.args.peer.now c.args.prefix c.args.route.now.route) k
+    new c.at_inbound.result c.at_inbound.new.route.route) c.self.view_is
+    (answers (chain manifest Inbound [] (world maps) noted) (chain manifest Inbound [] (world (closed maps.maps)) noted)
+    old new c.at_inbound.result c.at_inbound.new.route.route left c.at_inbound.ensures.ran
+    (ap (λ (m : Journalled). chain manifest Inbound [] (world m) noted) c.self.invariant.1)
+    refl)
 
 pub returns-clause-undone : goal.returns-clause-undone
 returns-clause-undone c =
     let self = c.args.self.now in
     let w =
-      world_of self.engine self.local c.args.peer.now nobody c.args.prefix c.args.now c.args.route.now.route [] nobody in
+    world_of self.engine self.local c.args.peer.now nobody c.args.prefix c.args.now c.args.route.now.route [] nobody in
     undone self.manifest Inbound [] w self _ c.at_inbound.result c.at_inbound.new.route.route refl
-      (returns-clause-answers c)
+    (returns-clause-answers c)

@@ -1,16 +1,12 @@
 -- The engine gives what its chain gives.
-use Rattle.std.proofs.Common.{◌≡◌, ◌∙◌, refl, sym, ap, subst, List, ℕ, []}
-use Rattle.std.specs.Prelude.{IfSome, IsTrue}
+use Rattle.std.proofs.Common.{refl, ap, subst, []}
 use Rattle.xb_domain.specs.declared.point.Point.TheVariants.{Outbound}
-use Rattle.xb_values.specs.Buffers.{Buffer}
 use Rattle.xbgp_helpers.specs.Shows.{shown_at_outbound}
-use Rattle.xbgp_helpers.specs.Worlds.{nobody, nowhere}
 use Rattle.xbgp_maps.specs.Mappings.{Journalled, closed}
-use Rattle.xbgp_points.specs.Chains.{Chained, chain, is_sendable, programs_at}
+use Rattle.xbgp_points.specs.Chains.{chain}
 use Rattle.xbgp_points.specs.Engines.{Answers, Kept}
-use Rattle.xbgp_points.specs.Points.{called, given_section, section_by, section_left, world_of, outbound}
+use Rattle.xbgp_points.specs.Points.{world_of, outbound}
 use Rattle.xbgp_points.proofs.EngineLemmas.{answers, undone}
-use Rattle.xbgp_points.proofs.SectionLemmas.{chain-sends}
 use Rattle.xbgp_points.proofs.engine.Engine.outbound.Goals as goal
 
 pub returns-clause-answers : goal.returns-clause-answers
@@ -20,8 +16,9 @@ returns-clause-answers g c =
     let noted = c.self.inside.work.faults in
     let left = c.at_outbound.new.work in
     let world = λ (m : Journalled).
-      (shown_at_outbound c.args.peer.now c.args.source.now c.args.prefix (g.R.RouteView.route c.args.best.now) c.args.route.now
-        c.self.inside.local m 0).world in
+    (shown_at_outbound c.args.peer.now c.args.source.now c.args.prefix (g.R.RouteView.route c.args.best.now)
+    c.args.route.now
+    c.self.inside.local m 0).world in
     let old : Kept = record {
       manifest = manifest;
       local = c.self.inside.local;
@@ -32,18 +29,21 @@ returns-clause-answers g c =
       engine = record { maps = (left.maps).maps; faults = left.faults };
       wrote = left.wrote;
     } in
-    subst (λ (k : Kept). Answers (outbound k.manifest k.local k.engine c.args.peer.now c.args.source.now c.args.prefix (g.R.RouteView.route c.args.best.now) c.args.route.now.route) k
-          new c.at_outbound.result c.at_outbound.new.route.route) c.self.view_is
-      (answers (chain manifest Outbound [] (world maps) noted) (chain manifest Outbound [] (world (closed maps.maps)) noted)
-        old new c.at_outbound.result c.at_outbound.new.route.route left c.at_outbound.ensures.ran
-        (ap (λ (m : Journalled). chain manifest Outbound [] (world m) noted) c.self.invariant.1)
-        refl)
+    subst (λ (k : Kept). Answers
+    (outbound k.manifest k.local k.engine c.args.peer.now c.args.source.now c.args.prefix
+    (g.R.RouteView.route c.args.best.now) c.args.route.now.route) k
+    new c.at_outbound.result c.at_outbound.new.route.route) c.self.view_is
+    (answers (chain manifest Outbound [] (world maps) noted)
+    (chain manifest Outbound [] (world (closed maps.maps)) noted)
+    old new c.at_outbound.result c.at_outbound.new.route.route left c.at_outbound.ensures.ran
+    (ap (λ (m : Journalled). chain manifest Outbound [] (world m) noted) c.self.invariant.1)
+    refl)
 
 pub returns-clause-undone : goal.returns-clause-undone
 returns-clause-undone g c =
     let self = c.args.self.now in
     let w =
-      world_of self.engine self.local c.args.peer.now c.args.source.now c.args.prefix 0 c.args.route.now.route
-      (g.R.RouteView.route c.args.best.now) c.args.source.now in
+    world_of self.engine self.local c.args.peer.now c.args.source.now c.args.prefix 0 c.args.route.now.route
+    (g.R.RouteView.route c.args.best.now) c.args.source.now in
     undone self.manifest Outbound [] w self _ c.at_outbound.result c.at_outbound.new.route.route refl
-      (returns-clause-answers g c)
+    (returns-clause-answers g c)

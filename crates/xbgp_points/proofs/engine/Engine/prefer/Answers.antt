@@ -1,16 +1,13 @@
 -- The engine gives what its chain gives.
-use Rattle.std.proofs.Common.{◌≡◌, ◌∙◌, refl, sym, ap, subst, List, ℕ, []}
-use Rattle.std.specs.Prelude.{IfSome, IsTrue}
+use Rattle.std.proofs.Common.{refl, ap, subst, []}
 use Rattle.xb_domain.specs.declared.point.Point.TheVariants.{Decision}
-use Rattle.xb_values.specs.Buffers.{Buffer}
 use Rattle.xbgp_helpers.specs.Shows.{shown_at_decision}
-use Rattle.xbgp_helpers.specs.Worlds.{nobody, nowhere}
+use Rattle.xbgp_helpers.specs.Worlds.{nobody}
 use Rattle.xbgp_maps.specs.Mappings.{Journalled, closed}
-use Rattle.xbgp_points.specs.Chains.{Chained, chain, is_sendable, programs_at}
+use Rattle.xbgp_points.specs.Chains.{chain}
 use Rattle.xbgp_points.specs.Engines.{Answers, Kept}
-use Rattle.xbgp_points.specs.Points.{called, given_section, section_by, section_left, world_of, prefer}
+use Rattle.xbgp_points.specs.Points.{world_of, prefer}
 use Rattle.xbgp_points.proofs.EngineLemmas.{answers, undone}
-use Rattle.xbgp_points.proofs.SectionLemmas.{chain-sends}
 use Rattle.xbgp_points.proofs.engine.Engine.prefer.Goals as goal
 
 pub returns-clause-answers : goal.returns-clause-answers
@@ -20,8 +17,8 @@ returns-clause-answers g c =
     let noted = c.self.inside.work.faults in
     let left = c.at_decision.new.work in
     let world = λ (m : Journalled).
-      (shown_at_decision c.args.prefix (g.A.RouteView.route c.args.old.now) c.args.old_side.now
-        (g.B.RouteView.route c.args.new.now) c.args.new_side.now c.self.inside.local m 0).world in
+    (shown_at_decision c.args.prefix (g.A.RouteView.route c.args.old.now) c.args.old_side.now
+    (g.B.RouteView.route c.args.new.now) c.args.new_side.now c.self.inside.local m 0).world in
     let old : Kept = record {
       manifest = manifest;
       local = c.self.inside.local;
@@ -32,19 +29,22 @@ returns-clause-answers g c =
       engine = record { maps = (left.maps).maps; faults = left.faults };
       wrote = left.wrote;
     } in
-    subst (λ (k : Kept). Answers (prefer k.manifest k.local k.engine c.args.prefix (g.A.RouteView.route c.args.old.now) c.args.old_side.now (g.B.RouteView.route c.args.new.now)
-          c.args.new_side.now) k
-          new c.at_decision.result (g.A.RouteView.route c.args.old.now)) c.self.view_is
-      (answers (chain manifest Decision [] (world maps) noted) (chain manifest Decision [] (world (closed maps.maps)) noted)
-        old new c.at_decision.result (g.A.RouteView.route c.args.old.now) left c.at_decision.ensures.ran
-        (ap (λ (m : Journalled). chain manifest Decision [] (world m) noted) c.self.invariant.1)
-        refl)
+    subst (λ (k : Kept). Answers
+    (prefer k.manifest k.local k.engine c.args.prefix (g.A.RouteView.route c.args.old.now)
+    c.args.old_side.now (g.B.RouteView.route c.args.new.now)
+    c.args.new_side.now) k
+    new c.at_decision.result (g.A.RouteView.route c.args.old.now)) c.self.view_is
+    (answers (chain manifest Decision [] (world maps) noted)
+    (chain manifest Decision [] (world (closed maps.maps)) noted)
+    old new c.at_decision.result (g.A.RouteView.route c.args.old.now) left c.at_decision.ensures.ran
+    (ap (λ (m : Journalled). chain manifest Decision [] (world m) noted) c.self.invariant.1)
+    refl)
 
 pub returns-clause-undone : goal.returns-clause-undone
 returns-clause-undone g c =
     let self = c.args.self.now in
     let w =
-      world_of self.engine self.local nobody c.args.old_side.now c.args.prefix 0 (g.A.RouteView.route c.args.old.now)
-      (g.B.RouteView.route c.args.new.now) c.args.new_side.now in
+    world_of self.engine self.local nobody c.args.old_side.now c.args.prefix 0 (g.A.RouteView.route c.args.old.now)
+    (g.B.RouteView.route c.args.new.now) c.args.new_side.now in
     undone self.manifest Decision [] w self _ c.at_decision.result (g.A.RouteView.route c.args.old.now) refl
-      (returns-clause-answers g c)
+    (returns-clause-answers g c)
