@@ -1,5 +1,5 @@
 -- What a run keeps true of a world, a chain keeps true.
-use Rattle.std.proofs.Common.{◌≡◌, ℕ, Bool, true, false, List, [], ◌∷◌, cond}
+use Rattle.std.proofs.Common.{ℕ, Bool, true, false, List, [], ◌∷◌, cond}
 use Rattle.xb_domain.specs.declared.point.Point.{Point}
 use Rattle.bpf_mem.specs.Memory.{Memory, fresh}
 use Rattle.bpf_machine.specs.declared.world.End.{End}
@@ -39,4 +39,4 @@ module _ (point : Point) (P : World → Type 0)
   chain-keeps window before noted (p ∷ ps) w pb pw =
       let ended = run_program point window p.1 w in
       after_program-keeps (chain_from point window before noted ps) before noted p.0 ended.end ended.world
-        (λ v pv. chain-keeps window before noted ps v pb pv) pb (program-keeps window p.1 w pw)
+      (λ v pv. chain-keeps window before noted ps v pb pv) pb (program-keeps window p.1 w pw)

@@ -1,8 +1,7 @@
 -- The numbers of the programs of a point.
-use Rattle.std.proofs.Common.{◌≡◌, ◌∙◌, refl, sym, ap, ℕ, ◌+◌, ◌<◌, Bool, true, false, List, [], ◌∷◌, ◌++◌, map, filter}
-use Rattle.std.proofs.Common.{drop, cond, append_assoc, Some, Option, None, length, arith}
-use Rattle.std.specs.Prelude.{IsSomeAnd}
-use Rattle.std.specs.List.{slice_get, AllByRecursion}
+use Rattle.std.proofs.Common.{◌≡◌, ◌∙◌, sym, ap, ℕ, ◌+◌, Bool, true, false, List, [], ◌∷◌, ◌++◌, map, filter}
+use Rattle.std.proofs.Common.{drop, cond, append_assoc, Some}
+use Rattle.std.specs.List.{slice_get}
 use Rattle.xb_domain.specs.declared.point.Point.{Point}
 use Rattle.xbgp_manifest.specs.declared.entries.ProgramEntry.{ProgramEntry}
 use Rattle.xbgp_points.specs.Chains.{numbered, same_point}

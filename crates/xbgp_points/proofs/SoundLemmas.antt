@@ -1,6 +1,6 @@
 -- What the edits of programs keep of a route.
-use Rattle.std.proofs.Common.{◌≡◌, ◌∙◌, inl, inr, refl, sym, ap, subst, ℕ, ◌+◌, ◌≤◌, Bool, true, false, List, [], cond}
-use Rattle.std.proofs.Common.{length, Option, Some, None, is_some, arith, ◌==◌}
+use Rattle.std.proofs.Common.{◌≡◌, ◌∙◌, inl, inr, refl, sym, ap, subst, ℕ, ◌≤◌, Bool, true, false, List, cond}
+use Rattle.std.proofs.Common.{length, Option, Some, None, is_some, arith}
 use Rattle.std.specs.Map.{keys_of}
 use Rattle.std.specs.BTreeMap.{is_at}
 use Rattle.std.specs.Ordering.{nat_cmp}
@@ -9,30 +9,28 @@ use Rattle.std.proofs.lemmas.Bool.{cases_Bool}
 use Rattle.std.specs.Prelude.{bit_and}
 use Rattle.std.proofs.lemmas.Nat.{and_assoc}
 use Rattle.std.specs.Option.{unwrap_or}
-use Rattle.bpf_mem.specs.Memory.{Memory}
 use Rattle.bgp_attr.specs.declared.flags.TheConstants.{KEPT, OPTIONAL}
 use Rattle.bgp_attr.specs.Routes.{IsRoute}
 use Rattle.xb_domain.specs.declared.point.Point.{Point}
 use Rattle.xbgp_view.proofs.LowerLemmas.{eq-nat_cmp}
 use Rattle.xbgp_helpers.specs.Worlds.{World}
-use Rattle.xbgp_helpers.specs.Helping.{help}
 use Rattle.xbgp_helpers.proofs.RunsLemmas.{bpf-keeps_route}
 use Rattle.xbgp_manifest.specs.declared.entries.ProgramEntry.{ProgramEntry}
 use Rattle.xbgp_points.specs.Chains.{Faults, chain_from}
 use Rattle.xbgp_points.proofs.KeepLemmas.{chain-keeps}
-use Rattle.xbgp_points.proofs.Native.{keeps_same}
-use Rattle.bgp_attr.specs.Routes.{Attribute, Route, attribute_at, with_attribute, without_attribute, canon, kept_flags}
+use Rattle.bgp_attr.specs.Routes.{Attribute, Route, attribute_at, with_attribute, canon, kept_flags}
 use Rattle.bgp_attr.specs.Routes.{as_width}
 use Rattle.bgp_attr.specs.Rules.{attr_fault}
 use Rattle.bgp_attr.specs.declared.codes.TheConstants.{ORIGIN, AS_PATH, NEXT_HOP}
-use Rattle.bgp_attr.specs.declared.rule.AttrFault.{AttrFault}
-use Rattle.xb_wire.specs.declared.numbers.TheConstants.{MAX_MESSAGE}
 use Rattle.xbgp_view.proofs.EditsLemmas.{kept_flags-kept_flags}
-use Rattle.spk_native.proofs.RebuildsLemmas.{at-without, at-set_if, rising-set_if, rising-without, length-without, is_eq-true}
-use Rattle.spk_native.specs.Values.{HasNoFault}
+use Rattle.spk_native.proofs.RebuildsLemmas.{at-without, at-set_if, rising-set_if, rising-without}
+use Rattle.spk_native.proofs.RebuildsLemmas.{length-without, is_eq-true}
 use Rattle.xbgp_helpers.specs.Changes.{IsSet, IsUnset}
 use Rattle.xbgp_helpers.specs.Helping.{is_mandatory}
-use Rattle.xbgp_points.specs.Engines.{HasMandatory, KeepsRoute}
+use Rattle.xbgp_points.specs.Engines.{KeepsRoute}
+
+keeps_same : (r : Route) → KeepsRoute r r
+keeps_same r = record { mandatory = λ h. h; faultless = λ h. h; short = λ h. h }
 
 abbrev IsRising : Route → Type 0
 IsRising r = IsStrictlySortedBy nat_cmp (keys_of r)
@@ -77,7 +75,8 @@ other-code code q free must =
     ]
 
 -- an attribute that was set has no fault
-module _ (code flags : ℕ) (value : List ℕ) (sound : attr_fault as_width code flags value ≡ None) (q : ℕ) (a : Attribute) where
+module _ (code flags : ℕ) (value : List ℕ) (sound : attr_fault as_width code flags value ≡ None)
+    (q : ℕ) (a : Attribute) where
   abbrev set_one : Attribute
   set_one = record { flags = kept_flags flags; value = value }
 
@@ -96,8 +95,8 @@ keeps-set r s h =
     let at = λ (q : ℕ). ap (λ (t : Route). attribute_at t q) h.after ∙ at-with r h.code h.flags h.value q in
     let a : Attribute = record { flags = kept_flags h.flags; value = h.value } in
     let there = λ (q : ℕ) (was : is_some (attribute_at r q) ≡ true).
-      ap (λ (x : Option Attribute). is_some x) (at q)
-      ∙ some-with (is_at (nat_cmp h.code) q) (attribute_at r q) a was in
+    ap (λ (x : Option Attribute). is_some x) (at q)
+    ∙ some-with (is_at (nat_cmp h.code) q) (attribute_at r q) a was in
     record {
       mandatory = λ m. record {
         origin = there ORIGIN m.origin;
@@ -105,7 +104,7 @@ keeps-set r s h =
         next_hop = there NEXT_HOP m.next_hop;
       };
       faultless = λ f q b e.
-        set-faultless h.code h.flags h.value h.sound q b (is_at (nat_cmp h.code) q) (attribute_at r q) refl
+          set-faultless h.code h.flags h.value h.sound q b (is_at (nat_cmp h.code) q) (attribute_at r q) refl
           (sym (at q) ∙ e) (f q b);
       short = λ _. h.short;
     }
@@ -114,8 +113,8 @@ keeps-unset : (r s : Route) → IsRising r → IsUnset r s → KeepsRoute r s
 keeps-unset r s rising h =
     let at = λ (q : ℕ). ap (λ (t : Route). attribute_at t q) h.after ∙ at-without r h.code q rising in
     let there = λ (q : ℕ) (must : is_mandatory q ≡ true) (was : is_some (attribute_at r q) ≡ true).
-      ap (λ (x : Option Attribute). is_some x) (at q)
-      ∙ some-without (is_at (nat_cmp h.code) q) (attribute_at r q) (other-code h.code q h.free must) was in
+    ap (λ (x : Option Attribute). is_some x) (at q)
+    ∙ some-without (is_at (nat_cmp h.code) q) (attribute_at r q) (other-code h.code q h.free must) was in
     record {
       mandatory = λ m. record {
         origin = there ORIGIN refl m.origin;
@@ -124,9 +123,9 @@ keeps-unset r s rising h =
       };
       faultless = λ f q b e. f q b (was-there (is_at (nat_cmp h.code) q) (attribute_at r q) b (sym (at q) ∙ e));
       short = λ was.
-        let less : length (canon s) ≤ length (canon r) =
+          let less : length (canon s) ≤ length (canon r) =
           rw h.after (omega (arith, length-without r h.code)) in
-        omega (arith, less, was);
+          omega (arith, less, was);
     }
 
 -- one edit after others
@@ -157,6 +156,6 @@ pub chain-keeps_route : (point : Point) (window : List ℕ) (noted : Faults) (ps
 chain-keeps_route point window noted ps w route =
     let start : IsFrom w.route w.route = (route.rising, keeps_same w.route) in
     (chain-keeps point (λ (v : World). IsFrom w.route v.route)
-      (λ code m fuel v h.
-        bpf-keeps_route (IsFrom w.route) (set-from w.route) (unset-from w.route) point code m fuel v h)
-      (λ v h. h) window w noted ps w start start).1
+    (λ code m fuel v h.
+    bpf-keeps_route (IsFrom w.route) (set-from w.route) (unset-from w.route) point code m fuel v h)
+    (λ v h. h) window w noted ps w start start).1

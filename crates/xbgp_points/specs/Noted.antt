@@ -29,8 +29,8 @@ with_cause c causes.BadOutput = record c { bad_output = true }
 abbrev pub faults_of : ℕ → Causes → Faults → Faults
 faults_of n c others =
     before_others c.memory (n, causes.Memory) (before_others c.fuel (n, causes.Fuel)
-      (before_others c.misuse (n, causes.Misuse) (before_others c.bad_return (n, causes.BadReturn)
-        (before_others c.bad_output (n, causes.BadOutput) others))))
+    (before_others c.misuse (n, causes.Misuse) (before_others c.bad_return (n, causes.BadReturn)
+    (before_others c.bad_output (n, causes.BadOutput) others))))
 
 -- the faults of programs that are numbered from n on
 abbrev pub faults_from : ℕ → List Causes → Faults

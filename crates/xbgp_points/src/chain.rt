@@ -6,7 +6,7 @@ ghost use Rattle.xb_domain.specs.declared.point.Point.{Point};
 ghost use Rattle.xbgp_helpers.specs.Worlds.{World};
 ghost use Rattle.xbgp_points.specs.declared.outcome.Outcome.TheVariants.{Failed as HasFailed};
 ghost use Rattle.xbgp_points.specs.Chains.{chain_from, exited, output_fits, run_program, with_fault};
-ghost use Rattle.xbgp_points.specs.Orders.{picked, AreRunnable, Leaves};
+ghost use Rattle.xbgp_points.specs.Orders.{parts_of, picked, AreRunnable, Leaves};
 
 use crate::fault::FaultSet;
 use crate::outcome::Outcome;
@@ -58,7 +58,8 @@ fn fail(program: u32, cause: Cause, faults: &mut FaultSet) -> Outcome
 fn exit<S: Site>(site: &mut S, program: u32, value: u64, faults: &mut FaultSet) -> Outcome
     requires { program < MAX_PROGRAMS }
     ensures left { (before : World) → Leaves
-        (exited S.point before faults.old program value (S.world site.old)) result faults.new (S.world site.new) }
+        (exited S.point before faults.old program value (S.world site.old)) result faults.new
+        (parts_of (S.world site.new)) }
     ensures fixed { S.fixed site.new ≡ S.fixed site.old }
 {
     let verdict = match value {
@@ -86,8 +87,8 @@ pub(crate) fn run_chain<S: Site>(
     requires programs { AreRunnable S.point programs.now numbers.now }
     ensures left { Leaves
         (chain_from S.point window.now (S.world site.old) faults.old (picked programs.now numbers.now)
-            (S.world site.old))
-        result faults.new (S.world site.new) }
+        (S.world site.old))
+        result faults.new (parts_of (S.world site.new)) }
     ensures fixed { S.fixed site.new ≡ S.fixed site.old }
 {
     'programs: for number in numbers {

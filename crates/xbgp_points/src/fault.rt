@@ -47,11 +47,23 @@ impl Causes {
         ensures { result ≡ with_cause self cause }
     {
         match cause {
-            Cause::Memory => Causes { memory: true, ..self },
+            Cause::Memory => Causes {
+                memory: true,
+                ..self
+            },
             Cause::Fuel => Causes { fuel: true, ..self },
-            Cause::Misuse => Causes { misuse: true, ..self },
-            Cause::BadReturn => Causes { bad_return: true, ..self },
-            Cause::BadOutput => Causes { bad_output: true, ..self },
+            Cause::Misuse => Causes {
+                misuse: true,
+                ..self
+            },
+            Cause::BadReturn => Causes {
+                bad_return: true,
+                ..self
+            },
+            Cause::BadOutput => Causes {
+                bad_output: true,
+                ..self
+            },
         }
     }
 

@@ -7,9 +7,9 @@ use Rattle.xbgp_points.proofs.chain.run_chain.Given as goal
 abbrev pub invariant-programs : goal.invariant-programs
 invariant-programs g l =
     (chain_from g.S.Site.point l.window (g.S.Site.world l.fn.site) l.faults
-        (picked l.programs (drop l.number-index l.numbers)) (g.S.Site.world l.site)
-      ≡ chain_from g.S.Site.point l.window (g.S.Site.world l.fn.site) l.fn.faults (picked l.programs l.numbers)
-        (g.S.Site.world l.fn.site))
+    (picked l.programs (drop l.number-index l.numbers)) (g.S.Site.world l.site)
+    ≡ chain_from g.S.Site.point l.window (g.S.Site.world l.fn.site) l.fn.faults (picked l.programs l.numbers)
+    (g.S.Site.world l.fn.site))
     × AreRunnable g.S.Site.point l.programs (drop l.number-index l.numbers)
     × (g.S.Site.fixed l.site ≡ g.S.Site.fixed l.fn.site)
     × (l.faults ≡ l.fn.faults)
