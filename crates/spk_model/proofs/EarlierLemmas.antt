@@ -46,9 +46,11 @@ later earlier t = record t { trace = earlier ++ t.trace }
 abbrev IsLater : (Routed → Routed) → Type 0
 IsLater f = (earlier : Trace) (t : Routed) → f (later earlier t) ≡ later earlier (f t)
 
-fold-later : {A : Type 0} (f : Routed → A → Routed) → ((a : A) → IsLater (λ t. f t a)) → (xs : List A) → IsLater (λ t. fold f t xs)
+fold-later : {A : Type 0} (f : Routed → A → Routed) → ((a : A) → IsLater (λ t. f t a)) → (xs : List A)
+    → IsLater (λ t. fold f t xs)
 fold-later f keeps [] earlier t = refl
-fold-later f keeps (x ∷ xs) earlier t = ap (λ (u : Routed). fold f u xs) (keeps x earlier t) ∙ fold-later f keeps xs earlier (f t x)
+fold-later f keeps (x ∷ xs) earlier t = ap (λ (u : Routed). fold f u xs) (keeps x earlier t)
+    ∙ fold-later f keeps xs earlier (f t x)
 
 if-later : (b : Bool) (f g : Routed → Routed) → IsLater f → IsLater g → IsLater (λ t. if b then f t else g t)
 if-later true f g p q earlier t = p earlier t
@@ -56,7 +58,8 @@ if-later false f g p q earlier t = q earlier t
 
 ran_all-later : (engine : Engine) (runs : Trace) → IsLater (λ t. ran_all t engine runs)
 ran_all-later engine runs earlier t =
-    ap (λ (x : Trace). record { routing = record t.routing { engine = engine }; trace = x }) (append_assoc earlier t.trace runs)
+    ap (λ (x : Trace). record { routing = record t.routing { engine = engine }; trace = x })
+    (append_assoc earlier t.trace runs)
 
 set_adv-later : (p : ℕ) (prefix : Prefix) (section : Option (List ℕ)) → IsLater (λ t. set_adv t p prefix section)
 set_adv-later p prefix None earlier t = refl
@@ -94,7 +97,8 @@ module _ (setup : Setup) (sessions : List Owned) where
       ap (λ (u : Routed). set_adv u p prefix x.section) (ran_all-later x.engine x.trace earlier t)
       ∙ set_adv-later p prefix x.section earlier (ran_all t x.engine x.trace)
 
-  export_best-later : (p : ℕ) (prefix : Prefix) (best : Option Chosen) → IsLater (λ t. export_best setup sessions t p prefix best)
+  export_best-later : (p : ℕ) (prefix : Prefix) (best : Option Chosen)
+      → IsLater (λ t. export_best setup sessions t p prefix best)
   export_best-later p prefix None earlier t = refl
   export_best-later p prefix (Some best) earlier t = advertise-later p prefix _ earlier t
 
@@ -291,7 +295,8 @@ module _ (setup : Setup) where
       let others : IsAfter (λ u. if kind == NOTIFICATION then react setup u p stimuli.Notified []
       else react setup u p stimuli.Keepalive []) =
       if-after (kind == NOTIFICATION) (λ u. react setup u p stimuli.Notified [])
-      (λ u. react setup u p stimuli.Keepalive []) (react-after p stimuli.Notified []) (react-after p stimuli.Keepalive []) in
+      (λ u. react setup u p stimuli.Keepalive []) (react-after p stimuli.Notified [])
+      (react-after p stimuli.Keepalive []) in
       let rest : IsAfter (λ u. if kind == UPDATE then update_in setup u p body state
       else if kind == NOTIFICATION then react setup u p stimuli.Notified [] else react setup u p stimuli.Keepalive []) =
       if-after (kind == UPDATE) (λ u. update_in setup u p body state)
@@ -320,7 +325,8 @@ module _ (setup : Setup) where
   take_turns-after zero p os runs t = refl
   take_turns-after (suc turns) p os runs t =
       when_true-after (is_live (state_of t p))
-      (λ u. front_in setup (λ v. take_turns setup turns v p) u p (message_size (wait_of u p)) (front_fault (wait_of u p)))
+      (λ u. front_in setup (λ v. take_turns setup turns v p) u p (message_size (wait_of u p))
+      (front_fault (wait_of u p)))
       (λ o r u. front_in-after (λ v. take_turns setup turns v p) (take_turns-after turns p) p
       (message_size (wait_of u p)) (front_fault (wait_of u p)) o r u) os runs t
 

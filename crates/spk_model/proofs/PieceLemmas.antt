@@ -1,26 +1,24 @@
 -- Octets that come in two pieces do what they do in one.
-use Rattle.std.proofs.Common.{◌≡◌, refl, sym, ap, ◌∙◌, inl, inr, ℕ, zero, suc, ◌+◌, ◌-◌, ◌<◌, ◌≤◌, Bool, true, false}
+use Rattle.std.proofs.Common.{◌≡◌, refl, sym, ap, ◌∙◌, inl, inr, ℕ, zero, suc, ◌-◌, ◌<◌, ◌≤◌, Bool, true, false}
 use Rattle.std.proofs.Common.{not}
-use Rattle.std.proofs.Common.{List, [], ◌∷◌, ◌++◌, length, take, drop, append_assoc, Option, Some, None, arith, get_or}
+use Rattle.std.proofs.Common.{List, [], ◌∷◌, ◌++◌, length, take, drop, append_assoc, Option, Some, None, arith}
 use Rattle.std.proofs.Common.{length-append}
 use Rattle.std.proofs.lemmas.Bool.{cases_Bool, ltb-true, ltb-false, le-ltb}
-use Rattle.std.proofs.lemmas.List.{append-nil, set-get_or, set_past, get_or_past, length-set, length-drop}
+use Rattle.std.proofs.lemmas.List.{append-nil, set_past, get_or_past, length-set, length-drop}
 use Rattle.std.proofs.lemmas.List.{take-append-le, drop-append-le}
 use Rattle.std.specs.Prelude.{if◌then◌else◌, nat_lt}
-use Rattle.xb_domain.specs.declared.output.Packing.{Packing}
 use Rattle.xb_domain.specs.Outputs.{Output}
-use Rattle.xb_domain.specs.Events.{Event, octets}
 use Rattle.xb_wire.specs.Messages.{Notification, message_size, front_fault, header_fault}
 use Rattle.xb_wire.proofs.MessageLemmas.{message_size_is_size, message_size_is_stable}
 use Rattle.spk_model.proofs.HeaderLemmas.{header_fault-append}
 use Rattle.bgp_fsm.specs.Sessions.{is_live}
 use Rattle.spk_model.specs.declared.host.Setup.{Setup}
 use Rattle.spk_model.specs.Choosing.{Trace}
-use Rattle.spk_model.specs.Turning.{Turn, Speaker, Happened, state_of, wait_of, set_wait, message_in, refuse, front_in}
+use Rattle.spk_model.specs.Turning.{Turn, state_of, wait_of, set_wait, message_in, refuse, front_in}
 use Rattle.spk_model.specs.Turning.{when_true, take_turns, octets_in, turn, event, history, before}
 use Rattle.spk_model.specs.Laws.{cutting}
 use Rattle.spk_model.proofs.EarlierLemmas.{after, octets_in-after}
-use Rattle.spk_model.proofs.WaitLemmas.{wait_of-set_wait, set_wait-set_wait, Leaves, message_in_leaves, refuse_ends}
+use Rattle.spk_model.proofs.WaitLemmas.{wait_of-set_wait, set_wait-set_wait, message_in_leaves, refuse_ends}
 
 -- ---- the front of octets
 
@@ -55,7 +53,8 @@ front_fault_long s f e = ltb-false (length s) 19 (fault_parts (nat_lt (length s)
 
 -- octets with a fault at the front have no message there
 no_message : (short : Bool) (fault : Option Notification) (size : Option ℕ) (f : Notification)
-    → (if short then None else fault) ≡ Some f → (if short then None else elim fault [ Some g ↦ None | None ↦ size ]) ≡ None
+    → (if short then None else fault) ≡ Some f
+    → (if short then None else elim fault [ Some g ↦ None | None ↦ size ]) ≡ None
 no_message true fault size f e = refl
 no_message false None size f e = let wrong : None ≡ Some f = e in cc wrong
 no_message false (Some g) size f e = refl
@@ -100,12 +99,14 @@ module _ (setup : Setup) (p : ℕ) where
       ∙ ap (λ (x : List ℕ). take_turns setup n (message_in setup (set_wait t p (drop k x)) p (take k x)) p) is
 
   -- a fault at the front
-  take_turns-fault : (n : ℕ) (t : Turn) (w : List ℕ) (f : Notification) → is_live (state_of t p) ≡ true → wait_of t p ≡ w
+  take_turns-fault : (n : ℕ) (t : Turn) (w : List ℕ) (f : Notification) → is_live (state_of t p) ≡ true
+      → wait_of t p ≡ w
       → front_fault w ≡ Some f → take_turns setup (suc n) t p ≡ refuse setup t p f
   take_turns-fault n t w f live is fault =
       take_turns-live n t live
       ∙ ap (λ (x : List ℕ). front_in setup (λ v. take_turns setup n v p) t p (message_size x) (front_fault x)) is
-      ∙ ap (λ (o : Option ℕ). front_in setup (λ v. take_turns setup n v p) t p o (front_fault w)) (message_size-fault w f fault)
+      ∙ ap (λ (o : Option ℕ). front_in setup (λ v. take_turns setup n v p) t p o (front_fault w))
+      (message_size-fault w f fault)
       ∙ ap (λ (o : Option Notification). front_in setup (λ v. take_turns setup n v p) t p None o) fault
 
   -- nothing is at the front
@@ -152,7 +153,8 @@ module _ (setup : Setup) (p : ℕ) where
       → is_live (state_of (message_in setup t p message) p) ≡ not closed
       → ((x : List ℕ) → message_in setup (set_wait t p x) p message
       ≡ (if closed then message_in setup t p message else set_wait (message_in setup t p message) p x))
-      → length ((message_in setup t p message).speaker).waits ≡ length (t.speaker).waits → p - 1 < length (t.speaker).waits
+      → length ((message_in setup t p message).speaker).waits ≡ length (t.speaker).waits
+      → p - 1 < length (t.speaker).waits
       → Rest t message w
   rest_by t message w true live same long within =
       let v = message_in setup t p message in
@@ -213,7 +215,8 @@ module _ (setup : Setup) (p : ℕ) where
               | inr dead ↦ take_turns-dead n v dead ∙ sym (take_turns-dead m v dead)
               | inl up ↦
                   let there = ap (λ (x : List ℕ). length x) (r.waits up).0 in
-                  enough n m v r.within (omega (arith, there, left, some, short)) (omega (arith, there, left, some, also))
+                  enough n m v r.within (omega (arith, there, left, some, short))
+                  (omega (arith, there, left, some, also))
             ] in
             take_turns-message n k t w live refl size ∙ middle ∙ sym (take_turns-message m k t w live refl size))
       ]
@@ -302,14 +305,16 @@ module _ (setup : Setup) (p : ℕ) where
       → octets_in setup t p b ≡ t
   nothing_waits t b live past =
       let whole = wait_of t p ++ b in
-      let same : set_wait t p whole ≡ t = ap (λ (ws : List (List ℕ)). record t { speaker = record t.speaker { waits = ws } })
+      let same : set_wait t p whole
+      ≡ t = ap (λ (ws : List (List ℕ)). record t { speaker = record t.speaker { waits = ws } })
       (set_past (t.speaker).waits (p - 1) whole past) in
       octets_in-live t b live
       ∙ ap (λ (x : Turn). take_turns setup (length whole) x p) same
       ∙ take_turns-still (length whole) t [] (get_or_past (t.speaker).waits (p - 1) [] past) refl refl
 
   -- octets come in two pieces, within one event
-  octets_in-append : (t : Turn) (a b : List ℕ) → octets_in setup t p (a ++ b) ≡ octets_in setup (octets_in setup t p a) p b
+  octets_in-append : (t : Turn) (a b : List ℕ)
+      → octets_in setup t p (a ++ b) ≡ octets_in setup (octets_in setup t p a) p b
   octets_in-append t a b =
       let w = wait_of t p in
       elim (cases_Bool (is_live (state_of t p))) [
@@ -352,7 +357,8 @@ cutting_holds rule setup s p a b =
     let w = octets_in setup (before v.speaker) p b in
     let begun : v ≡ after v.outputs v.trace (before v.speaker) =
     ap (λ (x : List Output). record { speaker = v.speaker; outputs = x; trace = v.trace }) (sym (append-nil v.outputs))
-    ∙ ap (λ (x : Trace). record { speaker = v.speaker; outputs = v.outputs ++ []; trace = x }) (sym (append-nil v.trace)) in
+    ∙ ap (λ (x : Trace). record { speaker = v.speaker; outputs = v.outputs ++ []; trace = x })
+    (sym (append-nil v.trace)) in
     let e : octets_in setup (before s) p (a ++ b) ≡ after v.outputs v.trace w =
     octets_in-append setup p (before s) a b
     ∙ ap (λ (x : Turn). octets_in setup x p b) begun

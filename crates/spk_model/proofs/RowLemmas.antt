@@ -74,7 +74,8 @@ pub row_live : (own : ℕ) (s : Session) (now : ℕ) (st : Stimulus) → is_live
 row_live own s now st live = row_live_by own s.state s.hold_at s.keepalive_at s.hold s.id s.wide now st live
 
 row_fault_by : (own : ℕ) (state : State) (a b : Option ℕ) (hold id : ℕ) (wide : Bool) (now code subcode : ℕ)
-    → is_live state ≡ true → has_close (row own (session_by state a b hold id wide) now (Fault code subcode)).acts ≡ true
+    → is_live state ≡ true
+    → has_close (row own (session_by state a b hold id wide) now (Fault code subcode)).acts ≡ true
 unfolding row
 row_fault_by own Idle a b hold id wide now code subcode live = cc
 row_fault_by own Connect a b hold id wide now code subcode live = cc

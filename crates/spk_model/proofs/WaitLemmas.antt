@@ -1,5 +1,5 @@
 -- What a message does, and the octets that wait after it: they stay, or the session is closed and they are dropped.
-use Rattle.std.proofs.Common.{◌≡◌, refl, sym, ap, ◌∙◌, ℕ, ◌-◌, ◌<◌, ◌≤◌, Bool, true, false, not, List, [], ◌∷◌, length}
+use Rattle.std.proofs.Common.{◌≡◌, refl, sym, ap, ◌∙◌, ℕ, ◌-◌, ◌<◌, Bool, true, false, not, List, [], ◌∷◌, length}
 use Rattle.std.proofs.Common.{Option, Some, None, fold, get_or}
 use Rattle.std.proofs.lemmas.Bool.{cases_Bool, ltb-true, ltb-false}
 use Rattle.std.proofs.Common.{inl, inr}
@@ -26,7 +26,8 @@ use Rattle.spk_model.specs.Turning.{wait_of}
 use Rattle.spk_model.proofs.RowLemmas.{has_close, row_live, row_fault}
 
 -- the octets that wait for a peer can be read back
-pub wait_of-set_wait : (t : Turn) (p : ℕ) (x : List ℕ) → p - 1 < length (t.speaker).waits → wait_of (set_wait t p x) p ≡ x
+pub wait_of-set_wait : (t : Turn) (p : ℕ) (x : List ℕ) → p - 1 < length (t.speaker).waits
+    → wait_of (set_wait t p x) p ≡ x
 wait_of-set_wait t p x within = get_or-set_same (t.speaker).waits (p - 1) x [] within
 
 -- the later of two lists of octets waits
@@ -81,7 +82,8 @@ module _ (setup : Setup) where
   unfolding act control
   acts_leave p extra x [] t = refl
   acts_leave p extra x (acts.SendOpen ∷ more) t = acts_leave p extra x more (act setup p extra t acts.SendOpen)
-  acts_leave p extra x (acts.SendKeepalive ∷ more) t = acts_leave p extra x more (act setup p extra t acts.SendKeepalive)
+  acts_leave p extra x (acts.SendKeepalive ∷ more) t = acts_leave p extra x more
+      (act setup p extra t acts.SendKeepalive)
   acts_leave p extra x (acts.SendNotice code subcode ∷ more) t =
       acts_leave p extra x more (act setup p extra t (acts.SendNotice code subcode))
   acts_leave p extra x (acts.Up ∷ more) t = acts_leave p extra x more (act setup p extra t acts.Up)
@@ -177,7 +179,8 @@ module _ (setup : Setup) where
       let l = refuse_leaves p n t live in
       record { closed = l.closed; live = l.live; same = l.same; long = l.long }
 
-  open_late_leaves : (p : ℕ) (t : Turn) → is_live (state_of t p) ≡ true → Leaves p (λ u. react setup u p stimuli.OpenLate []) t
+  open_late_leaves : (p : ℕ) (t : Turn) → is_live (state_of t p) ≡ true
+      → Leaves p (λ u. react setup u p stimuli.OpenLate []) t
   open_late_leaves p t live = react_leaves p stimuli.OpenLate [] t live
 
   open_in_leaves : (p : ℕ) (body : List ℕ) (state : State) (t : Turn) → is_live (state_of t p) ≡ true
@@ -199,7 +202,8 @@ module _ (setup : Setup) where
       let l = open_late_leaves p t live in
       record { closed = l.closed; live = l.live; same = l.same; long = l.long }
 
-  judged_update_leaves : (p : ℕ) (body : List ℕ) (fault : Option Notification) (t : Turn) → is_live (state_of t p) ≡ true
+  judged_update_leaves : (p : ℕ) (body : List ℕ) (fault : Option Notification) (t : Turn)
+      → is_live (state_of t p) ≡ true
       → Leaves p (λ u. judged_update setup u p body fault) t
   judged_update_leaves p body None t live =
       let l = react_leaves p stimuli.Update [] t live in
@@ -214,7 +218,8 @@ module _ (setup : Setup) where
       let l = refuse_leaves p n t live in
       record { closed = l.closed; live = l.live; same = l.same; long = l.long }
 
-  update_leaves : (p : ℕ) (t : Turn) → is_live (state_of t p) ≡ true → Leaves p (λ u. react setup u p stimuli.Update []) t
+  update_leaves : (p : ℕ) (t : Turn) → is_live (state_of t p) ≡ true
+      → Leaves p (λ u. react setup u p stimuli.Update []) t
   update_leaves p t live = react_leaves p stimuli.Update [] t live
 
   update_in_leaves : (p : ℕ) (body : List ℕ) (state : State) (t : Turn) → is_live (state_of t p) ≡ true
