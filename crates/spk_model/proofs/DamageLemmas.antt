@@ -1,9 +1,8 @@
 -- A message that is refused does what the loss of the link does at its first octet, and sends a NOTIFICATION.
-use Rattle.std.proofs.Common.{◌≡◌, refl, sym, ap, ◌∙◌, inl, inr, ℕ, zero, suc, ◌-◌, ◌<◌, ◌≤◌, Bool, true, false}
-use Rattle.std.proofs.Common.{List, [], ◌∷◌, ◌++◌, length, take, drop, append_assoc, Option, Some, None, fold, arith}
-use Rattle.std.proofs.lemmas.List.{append-nil, set-set, length-append}
-use Rattle.std.specs.Prelude.{◌⊎◌, ◌==◌, if◌then◌else◌}
-use Rattle.xb_domain.specs.Events.{octets, down}
+use Rattle.std.proofs.Common.{◌≡◌, refl, sym, ap, ◌∙◌, inl, inr, ℕ, zero, suc, ◌-◌, ◌<◌, ◌≤◌, true, false}
+use Rattle.std.proofs.Common.{List, [], ◌∷◌, ◌++◌, length, take, drop, append_assoc, Some, fold, arith}
+use Rattle.std.proofs.lemmas.List.{append-nil, set-set}
+use Rattle.std.specs.Prelude.{◌==◌, if◌then◌else◌}
 use Rattle.xb_domain.specs.Outputs.{Output}
 use Rattle.xb_wire.specs.declared.numbers.TheConstants.{OPEN, UPDATE, NOTIFICATION}
 use Rattle.xb_wire.specs.Messages.{Notification, message_kind, message_body, message_size, front_fault}
@@ -15,17 +14,15 @@ use Rattle.bgp_open.specs.Opens.{judge_open4}
 use Rattle.bgp_fsm.specs.declared.State.{State}
 use Rattle.bgp_fsm.specs.declared.State.TheVariants.{Idle, Connect, OpenSent, OpenConfirm, Established}
 use Rattle.bgp_fsm.specs.declared.Stimulus.TheVariants as stimuli
-use Rattle.bgp_fsm.specs.declared.Act.{Act}
 use Rattle.bgp_fsm.specs.declared.Act.TheVariants as acts
-use Rattle.bgp_fsm.specs.Sessions.{Owned, Reaction, row, is_live, down_if_up, close}
+use Rattle.bgp_fsm.specs.Sessions.{Owned, Reaction, is_live, down_if_up, close}
 use Rattle.spk_model.specs.declared.host.Setup.{Setup}
 use Rattle.spk_model.specs.Sources.{entry_of, is_wide, session_of}
 use Rattle.spk_model.specs.Turning.{Speaker, Turn, put, control, act, react, refuse, judged_open, open_in}
 use Rattle.spk_model.specs.Turning.{judged_update}
 use Rattle.spk_model.specs.Turning.{update_in, message_in, octets_in, take_turns, session_at, set_session, set_rest}
 use Rattle.spk_model.specs.Turning.{set_wait}
-use Rattle.spk_model.specs.Turning.{rest_of, wait_of, state_of, before, event, history, turn}
-use Rattle.spk_model.specs.Readers.{IsPeer}
+use Rattle.spk_model.specs.Turning.{wait_of, state_of, before, event, history, turn}
 use Rattle.spk_model.specs.Laws.{damage, Refuses, notice_of, rest_in, wait_in, state_in}
 use Rattle.spk_model.proofs.RowLemmas.{fault_row, down_row}
 use Rattle.spk_model.proofs.EarlierLemmas.{after, fold-after, act-after}
@@ -149,7 +146,8 @@ module _ (setup : Setup) (p : ℕ) where
   -- a message at the front that is refused
   message_refused : (t : Turn) (k : ℕ) (w : List ℕ) (n : Notification) → is_live (state_of t p) ≡ true
       → p - 1 < length (t.speaker).waits → message_size w ≡ Some k
-      → ((u : Turn) → (u.speaker).sessions ≡ (t.speaker).sessions → message_in setup u p (take k w) ≡ refuse setup u p n)
+      → ((u : Turn) → (u.speaker).sessions ≡ (t.speaker).sessions
+      → message_in setup u p (take k w) ≡ refuse setup u p n)
       → take_turns setup (length w) (set_wait t p w) p ≡ refuse setup t p n
   message_refused t k w n live within size refuses =
       let ends = refuse_ends setup p n t live in

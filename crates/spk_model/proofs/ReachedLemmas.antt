@@ -1,7 +1,7 @@
 -- What every reached speaker keeps: a list of octets that wait for each configured peer.
-use Rattle.std.proofs.Common.{◌≡◌, refl, sym, ap, ◌∙◌, ℕ, zero, suc, ◌-◌, Bool, true, false, List, [], ◌∷◌, ◌++◌}
+use Rattle.std.proofs.Common.{◌≡◌, refl, ap, ◌∙◌, ℕ, zero, suc, ◌-◌, Bool, true, false, List, [], ◌∷◌, ◌++◌}
 use Rattle.std.proofs.Common.{length}
-use Rattle.std.proofs.Common.{Option, Some, None, map, take, drop}
+use Rattle.std.proofs.Common.{Option, Some, None, take, drop}
 use Rattle.std.proofs.lemmas.List.{length-set, length-map}
 use Rattle.std.specs.Prelude.{◌==◌, nat_le, nat_lt, if◌then◌else◌}
 use Rattle.xb_domain.specs.declared.output.Packing.{Packing}
@@ -18,7 +18,6 @@ use Rattle.bgp_fsm.specs.declared.Stimulus.TheVariants as stimuli
 use Rattle.bgp_fsm.specs.Sessions.{is_live}
 use Rattle.spk_model.specs.declared.host.Setup.{Setup}
 use Rattle.spk_model.specs.Sources.{entry_of, is_up, is_wide}
-use Rattle.spk_model.specs.Routing.{update}
 use Rattle.spk_model.specs.Turning.{Speaker, Turn, Due, refuse, judged_open, open_in, judged_update, update_in}
 use Rattle.spk_model.specs.Turning.{message_in}
 use Rattle.spk_model.specs.Turning.{front_in, when_true, take_turns, octets_in, fire_in_time, fire_first, time_turns}
@@ -80,7 +79,8 @@ module _ (setup : Setup) where
       let kept = react setup t p stimuli.Keepalive [] in
       let updated = update_in setup t p body (state_of t p) in
       let opened = open_in setup t p body (state_of t p) in
-      long_if (kind == OPEN) opened (if kind == UPDATE then updated else if kind == NOTIFICATION then notified else kept)
+      long_if (kind == OPEN) opened
+      (if kind == UPDATE then updated else if kind == NOTIFICATION then notified else kept)
       (waits_in t) (open_in_long t p body (state_of t p))
       (long_if (kind == UPDATE) updated (if kind == NOTIFICATION then notified else kept) (waits_in t)
       (update_in_long t p body (state_of t p))
@@ -107,8 +107,9 @@ module _ (setup : Setup) where
   take_turns_long zero t p = refl
   take_turns_long (suc turns) t p =
       when_true_long (is_live (state_of t p))
-      (λ u. front_in setup (λ v. take_turns setup turns v p) u p (message_size (wait_of u p)) (front_fault (wait_of u p)))
-      t (front_in_long (λ v. take_turns setup turns v p) (λ v. take_turns_long turns v p) t p (message_size (wait_of t p))
+      (λ u. front_in setup (λ v. take_turns setup turns v p) u p (message_size (wait_of u p))
+      (front_fault (wait_of u p))) t
+      (front_in_long (λ v. take_turns setup turns v p) (λ v. take_turns_long turns v p) t p (message_size (wait_of t p))
       (front_fault (wait_of t p)))
 
   pub octets_in_long : (t : Turn) (p : ℕ) (bytes : List ℕ) → waits_in (octets_in setup t p bytes) ≡ waits_in t

@@ -176,8 +176,8 @@ octets_event p (b ∷ bytes) = octets p (b ∷ bytes) ∷ []
 abbrev pub notice_of : Notification → List ℕ
 notice_of n = written.notice_message n.code n.subcode n.extra
 
--- a message that is refused does what the loss of the link would do at its first octet, and sends a NOTIFICATION before;
--- x is the piece before that octet
+-- a message that is refused does what the loss of the link would do at its first octet, and sends a NOTIFICATION
+-- before; x is the piece before that octet
 abbrev pub damage : Type 0
 damage = (rule : Packing) (setup : Setup) (s : Speaker) (p : ℕ) (x y : List ℕ) (n : Notification)
     → IsReached rule setup s → IsPeer setup p →
@@ -212,8 +212,8 @@ pub record IsLeft (p : ℕ) (before after : Speaker) : Type 0 where
 
 -- an event of a peer sends nothing to another, and leaves all of it but what it is advertised
 abbrev pub own_event : Type 0
-own_event = (rule : Packing) (setup : Setup) (s : Speaker) (p q : ℕ) (e : Event) → IsSetup setup
-    → IsReached rule setup s → AreConfigured setup s e → IsInRange e → is_of p e ≡ true → IsPeer setup q → q ≢ p →
+own_event = (rule : Packing) (setup : Setup) (s : Speaker) (p q : ℕ) (e : Event) → AreConfigured setup s e
+    → is_of p e ≡ true → IsPeer setup q → q ≢ p →
     let h = event rule setup s e in
     (flat_map (octets_to q) h.outputs ≡ []) × IsLeft q s h.speaker
 
