@@ -12,10 +12,10 @@ use Rattle.bgp_fsm.specs.declared.State.{State}
 use Rattle.bgp_fsm.specs.declared.State.TheVariants.{Idle, Connect, OpenSent, OpenConfirm, Established}
 use Rattle.bgp_fsm.specs.declared.Stimulus.{Stimulus}
 use Rattle.bgp_fsm.specs.declared.Stimulus.TheVariants as stimuli
-use Rattle.bgp_fsm.specs.Sessions.{is_live}
+use Rattle.bgp_fsm.specs.Sessions.{is_live, row}
 use Rattle.replay_log.specs.Logs.{clock_after}
 use Rattle.spk_model.specs.declared.host.Setup.{Setup}
-use Rattle.spk_model.specs.Turning.{Speaker, Turn, Due, control, act, react, refuse, judged_open, open_in, judged_update, update_in, message_in, front_in, when_true, take_turns, octets_in, fire_in_time, fire_first, time_turns, time_to, form_next, rest_or_form, unless_spent, emit_turns, emit, is_spent, rest_of, wait_of, set_wait, state_of, turn, before, event}
+use Rattle.spk_model.specs.Turning.{Speaker, Turn, Due, control, act, react, refuse, judged_open, open_in, judged_update, update_in, message_in, front_in, when_true, take_turns, octets_in, fire_in_time, fire_first, time_turns, time_to, form_next, rest_or_form, unless_spent, emit_turns, emit, is_spent, rest_of, wait_of, set_wait, state_of, session_at, set_session, turn, before, event}
 
 abbrev clock_of : Turn → ℕ
 clock_of t = (t.speaker).clock
@@ -41,7 +41,11 @@ module _ (setup : Setup) where
 
   react_keeps : (t : Turn) (p : ℕ) (s : Stimulus) (extra : List ℕ) → clock_of (react setup t p s extra) ≡ clock_of t
   unfolding react
-  react_keeps t p s extra = folded (act setup p extra) (act_keeps p extra) _ _
+  react_keeps t p s extra =
+      let owned = session_at t p in
+      let reaction = row owned.own owned.session (t.speaker).clock s in
+      folded (act setup p extra) (act_keeps p extra)
+      (set_session t p (record owned { session = reaction.session })) reaction.acts
 
   refuse_keeps : (t : Turn) (p : ℕ) (n : Notification) → clock_of (refuse setup t p n) ≡ clock_of t
   unfolding refuse

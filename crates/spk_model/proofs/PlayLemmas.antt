@@ -13,7 +13,7 @@ use Rattle.xb_io.proofs.PageLemmas.{gathered_begin, gathered_then, stops_then}
 use Rattle.replay_log.specs.Lines.{Line, blank_line, says, line_of}
 use Rattle.replay_log.specs.Logs.{Log, Ending, whole_log, bad_line, long_log, log, log_at, line_clock, clock_after, line_then, ended, after_line}
 use Rattle.replay_log.specs.Readings.{Next, next_line, next_end, next_line_too_long, next_log_too_long, next_at, log_by}
-use Rattle.replay_log.proofs.LogLemmas.{log_goes_on}
+use Rattle.replay_log.proofs.LogLemmas.{log_at-log_by}
 use Rattle.spk_model.specs.declared.host.Setup.{Setup}
 use Rattle.spk_model.specs.Turning.{Speaker, Happened, event, history}
 use Rattle.table_print.specs.Lines.{output_line}
@@ -42,7 +42,7 @@ module _ (rule : Packing) (setup : Setup) where
   unfolding coming
   coming_by text at n s next is =
       ap (come_by rule setup s)
-      (log_goes_on (length (setup.config).peers) n s.clock at text
+      (log_at-log_by (length (setup.config).peers) n s.clock at text
       ∙ ap (log_by (length (setup.config).peers) text n s.clock) (sym is))
 
   said_then : (text : List ℕ) (after n : ℕ) (s : Speaker) (said : Line)

@@ -5,6 +5,8 @@ pub mod Carry
 pub mod Exporting
 pub mod Routing
 pub mod Turning
-pub mod Reports
 pub mod Readers
+pub mod Reports
 pub mod Playing
+pub mod Names
+pub mod Ends

@@ -1,7 +1,7 @@
 //! The names that a report prints. They are copied before a host takes the manifest, which it does not give back.
-ghost use Rattle.std.specs.Prelude.{◌≡◌, ◌<◌, length, map, Some, IfOk};
+ghost use Rattle.std.specs.Prelude.{◌≡◌, ◌<◌, length, map, string_bytes, Some, IfOk};
 ghost use Rattle.std.specs.List.{slice_get};
-ghost use Rattle.spk_model.specs.Names.{map_names_of, program_names_of, names_of};
+ghost use Rattle.spk_model.specs.Names.{map_names_of, program_names_of, names_of, program_view};
 
 use std::alloc::{AllocError, Global};
 use std::marker::Model;

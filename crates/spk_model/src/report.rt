@@ -4,7 +4,7 @@ ghost use Rattle.std.specs.Prelude.{◌≡◌, ◌≤◌, ◌<◌, ◌∷◌, �
 ghost use Rattle.xb_io.specs.Pages.{Gathers};
 ghost use Rattle.table_print.specs.Lines.{adv_line, map_line};
 ghost use Rattle.spk_model.specs.Names.{names_of};
-ghost use Rattle.spk_model.specs.Readers.{IsPeer, advertised, map_entries};
+ghost use Rattle.spk_model.specs.Readers.{IsPeer, map_entries};
 ghost use Rattle.spk_model.specs.Reports.{route_lines, adv_lines, drained_lines, map_lines, fault_lines, table_lines};
 ghost use Rattle.spk_model.specs.Reports.{adv_lines_of, entry_lines, program_fault_lines};
 ghost use Rattle.spk_model.specs.Ends.{IsEnd, end_text};
@@ -123,7 +123,7 @@ fn print_entries<H: Host, K: Sink>(
     sink: &mut K,
 ) -> Result<(), Halt>
     requires { map < length ((H.built_from host.now).manifest).maps }
-    ensures { let lines = entry_lines (H.speaker host.now) name.now map in
+    ensures { let lines = entry_lines name.now (map_entries (H.speaker host.now) map) in
         Gathers K.took K.faults sink.old sink.new page.old page.new lines result }
 {
     let mut after = None;
