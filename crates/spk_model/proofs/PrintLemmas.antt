@@ -1,11 +1,12 @@
 -- Walks over the tables of a speaker, a line for each entry.
-use Rattle.std.proofs.Common.{◌≡◌, ℕ, zero, suc, ◌+◌, ◌-◌, ◌<◌, ◌≤◌, List, [], ◌∷◌, ◌++◌, length, drop, map, flat_map, Option, Some, None, refl, sym, ◌∙◌, ap, subst, arith, add-one, drop-cons}
+use Rattle.std.proofs.Common.{◌≡◌, ℕ, zero, suc, ◌+◌, ◌-◌, ◌<◌, ◌≤◌, List, [], ◌∷◌, ◌++◌, length, take, drop, map, flat_map, Option, Some, None, refl, sym, ◌∙◌, ap, subst, arith, add-one, drop-cons}
 use Rattle.std.specs.Prelude.{zip}
 use Rattle.std.specs.Option.{option_map, option_and_then}
 use Rattle.std.specs.Ordering.{nat_cmp}
 use Rattle.std.specs.Cmp.{IsTotalOrder}
 use Rattle.std.specs.declared.cmp.Ordering.{Ordering}
 use Rattle.std.specs.List.{slice_get, range_with_len}
+use Rattle.std.proofs.lemmas.List.{map_push, map_more}
 use Rattle.std.proofs.lemmas.Cmp.{nat_cmp_total, then_total, nat_list_cmp_total}
 use Rattle.std.proofs.lemmas.Option.{slice_get_within, get_or_from_slice_get}
 use Rattle.xb_words.specs.Table.{entry_after, entries_after, IsRising}
@@ -72,3 +73,12 @@ drop_at xs i x h = rw add-one (drop-cons xs i x (slice_get_within xs i x h) ∙ 
 pub lines_at : {A : Type 0} (f : A → List ℕ) (xs : List A) (i : ℕ) (x : A) → slice_get xs i ≡ Some x
     → flat_map f (drop i xs) ≡ f x ++ flat_map f (drop (i + 1) xs)
 lines_at f xs i x is = ap (flat_map f) (drop_at xs i x is)
+
+-- what was made of the elements so far, and then of the next
+pub made_next : {A B X : Type 0} (v : A → B) (w : X → B) (made : List A) (xs : List X) (i : ℕ) (a : A) (x : X)
+    → map v made ≡ map w (take i xs) → slice_get xs i ≡ Some x → v a ≡ w x
+    → map v (made ++ a ∷ []) ≡ map w (take (i + 1) xs)
+made_next v w made xs i a x so_far is same =
+    map_push v made a ∙ ap (λ l. l ++ v a ∷ []) so_far
+    ∙ ap (λ y. map w (take i xs) ++ y ∷ []) (same ∙ ap w (sym (get_or_from_slice_get xs i x x is)))
+    ∙ sym (map_more w xs i x (slice_get_within xs i x is))

@@ -27,6 +27,12 @@ sent_octets (came_up p) = 0
 sent_octets (went_down p) = 0
 sent_octets (sent p octets) = length octets
 
+-- the number of an output's peer
+abbrev pub peer_number : Output → ℕ
+peer_number (came_up p) = p
+peer_number (went_down p) = p
+peer_number (sent p octets) = p
+
 -- what the end of a text's writing is to the whole replay
 abbrev pub stop_of : Halt → Stop
 stop_of halts.WriteFault = stops.WriteFault

@@ -1,10 +1,10 @@
 //! Lines on their way to a sink. Each is written in memory of its own, and gathered on a page after those before it.
-ghost use Rattle.std.specs.Prelude.{◌≡◌, ◌+◌, ◌*◌, ◌≤◌, [], length, IfOk, OnOk};
+ghost use Rattle.std.specs.Prelude.{◌≡◌, ◌+◌, ◌*◌, ◌^◌, ◌<◌, ◌≤◌, [], length, IfOk, OnOk};
 ghost use Rattle.xb_domain.specs.Views.{output_view};
 ghost use Rattle.xb_io.specs.Pages.{Gathers, Puts};
 ghost use Rattle.table_print.specs.Lines.{adv_line, drained_line, fault_line, map_line, output_line, route_line};
 ghost use Rattle.spk_model.specs.Reports.{bad_log_line};
-ghost use Rattle.spk_model.specs.Ends.{sent_octets};
+ghost use Rattle.spk_model.specs.Ends.{peer_number, sent_octets};
 
 use bpf_machine::Cause;
 use std::alloc::{AllocError, Global};
@@ -48,21 +48,30 @@ fn begin_words(alloc: Global, line: &mut Buf, octets: usize) -> Result<(), Alloc
     begin_line(alloc, line, digits.checked_add(WORDS).ok_or(AllocError)?)
 }
 
-// How many octets are sent.
-fn sent_octets(item: &Output<'_>) -> usize
-    ensures { result ≡ sent_octets (output_view item.now) }
+// How many octets are sent. A peer's number has 32 bits.
+fn sent_octets(item: Output<'_>) -> usize
+    ensures octets { result ≡ sent_octets (output_view item.entry) }
+    ensures number { peer_number (output_view item.entry) < 2 ^ 32 }
 {
     match item {
-        Output::Sent(_, octets) => octets.len(),
-        _ => 0,
+        Output::Up(_peer) | Output::Down(_peer) => 0,
+        Output::Sent(_peer, octets) => octets.len(),
     }
+}
+
+// The sum of three numbers of octets. The error: there is no memory for more than a `usize` counts.
+fn total_of(first: usize, second: usize, third: usize) -> Result<usize, AllocError>
+    ensures { IfOk result (λ total. total ≡ first + second + third) }
+{
+    let two = first.checked_add(second).ok_or(AllocError)?;
+    two.checked_add(third).ok_or(AllocError)
 }
 
 // Writes the line of an output.
 fn write_output(alloc: Global, line: &mut Buf, item: Output<'_>) -> Result<(), AllocError>
     ensures { OnOk result (line.new.octets ≡ output_line (output_view item.entry)) }
 {
-    begin_words(alloc, line, sent_octets(&item))?;
+    begin_words(alloc, line, sent_octets(item))?;
     let _ = output_line(line, item);
     Ok(())
 }
@@ -77,6 +86,7 @@ fn write_route(
 ) -> Result<(), AllocError>
     ensures { OnOk result (line.new.octets ≡ route_line prefix source section.now) }
 {
+    let _ = prefix.addr();
     begin_words(alloc, line, section.len())?;
     let _ = route_line(line, prefix, source, section);
     Ok(())
@@ -92,6 +102,7 @@ fn write_adv(
 ) -> Result<(), AllocError>
     ensures { OnOk result (line.new.octets ≡ adv_line peer prefix section.now) }
 {
+    let _ = prefix.addr();
     begin_words(alloc, line, section.len())?;
     let _ = adv_line(line, peer, prefix, section);
     Ok(())
@@ -116,12 +127,8 @@ fn write_entry(
 ) -> Result<(), AllocError>
     ensures { OnOk result (line.new.octets ≡ map_line name.now key.now value.now) }
 {
-    let octets = name.len().checked_add(key.len()).ok_or(AllocError)?;
-    begin_words(
-        alloc,
-        line,
-        octets.checked_add(value.len()).ok_or(AllocError)?,
-    )?;
+    let octets = total_of(name.len(), key.len(), value.len())?;
+    begin_words(alloc, line, octets)?;
     let _ = map_line(line, name, key, value);
     Ok(())
 }
