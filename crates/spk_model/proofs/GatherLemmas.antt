@@ -73,3 +73,8 @@ module _ {K : Type 0} (took : K → Option (List ℕ)) (faults : K → ℕ) wher
   gathers_last old mid new page0 all page next text (Err halt) g s =
       stops_then took faults old mid new (page0 ++ all) page text [] halt
       (subst (λ l. Gathered took faults old mid (page0 ++ all) page l) (sym (append-nil text)) g) s
+
+  -- there is nothing to gather
+  pub gathered_nothing : (old : K) (page line : List ℕ) → line ≡ [] → Gathered took faults old old (page ++ line) page []
+  gathered_nothing old page line none =
+      subst (λ l. Gathered took faults old old (page ++ l) page []) (sym none) (gathered_begin took faults old page [])

@@ -1,6 +1,8 @@
 //! The names that a report prints. They are copied before a host takes the manifest, which it does not give back.
-ghost use Rattle.std.specs.Prelude.{◌≡◌, ◌<◌, length, map, string_bytes, Some, IfOk};
+ghost use Rattle.std.specs.Prelude.{◌≡◌, ◌<◌, ◌≤◌, length, map, string_bytes, Some, IfOk};
 ghost use Rattle.std.specs.List.{slice_get};
+ghost use Rattle.xbgp_maps.specs.declared.limits.TheConstants.{MAX_MAPS};
+ghost use Rattle.xbgp_manifest.specs.declared.limits.TheConstants.{MAX_PROGRAMS};
 ghost use Rattle.spk_model.specs.Names.{map_names_of, program_names_of, names_of, program_view};
 
 use std::alloc::{AllocError, Global};
@@ -23,7 +25,9 @@ pub(crate) struct Names {
 }
 
 impl Model for Names {
-    ghost use Rattle.std.specs.Prelude.{map, string_bytes};
+    ghost use Rattle.std.specs.Prelude.{◌≤◌, length, map, string_bytes};
+    ghost use Rattle.xbgp_maps.specs.declared.limits.TheConstants.{MAX_MAPS};
+    ghost use Rattle.xbgp_manifest.specs.declared.limits.TheConstants.{MAX_PROGRAMS};
     ghost use Rattle.spk_model.specs.Names.{Named, program_view};
 
     ghost Value = { Named };
@@ -31,6 +35,8 @@ impl Model for Names {
     ghost view = { λ n. record {
         maps = map string_bytes n.maps.items;
         programs = map program_view n.programs.items } };
+
+    ghost invariant = { λ n. (length n.maps.items ≤ MAX_MAPS) × (length n.programs.items ≤ MAX_PROGRAMS) };
 }
 
 // The names of maps.
@@ -75,14 +81,16 @@ impl Names {
 
     /// How many maps there are.
     pub(crate) fn maps(&self) -> usize
-        ensures { result ≡ length self.now.maps }
+        ensures count { result ≡ length self.now.maps }
+        ensures few { result ≤ MAX_MAPS }
     {
         self.maps.len()
     }
 
     /// How many programs there are.
     pub(crate) fn programs(&self) -> usize
-        ensures { result ≡ length self.now.programs }
+        ensures count { result ≡ length self.now.programs }
+        ensures few { result ≤ MAX_PROGRAMS }
     {
         self.programs.len()
     }

@@ -6,7 +6,7 @@ ghost use Rattle.table_print.specs.Lines.{adv_line, map_line};
 ghost use Rattle.spk_model.specs.Names.{names_of};
 ghost use Rattle.spk_model.specs.Readers.{IsPeer, map_entries};
 ghost use Rattle.spk_model.specs.Reports.{route_lines, adv_lines, drained_lines, map_lines, fault_lines, table_lines};
-ghost use Rattle.spk_model.specs.Reports.{adv_lines_of, entry_lines, program_fault_lines};
+ghost use Rattle.spk_model.specs.Reports.{adv_lines_of, drained_line_of, entry_lines, fault_line_of, program_fault_lines};
 ghost use Rattle.spk_model.specs.Ends.{IsEnd, end_text};
 
 use crate::Host;
@@ -47,9 +47,9 @@ fn print_routes<H: Host, K: Sink>(
 {
     let mut section = Buf::make(alloc, MAX_CANONICAL)?;
     let mut after = None;
-    'routes: while let Some((prefix, source)) = host.route_after(after, &mut section) {
-        page.route(prefix, source, section.as_slice(), sink)?;
-        after = Some(prefix);
+    'routes: while let Some(best) = host.route_after(after, &mut section) {
+        page.route(best.0, best.1, section.as_slice(), sink)?;
+        after = Some(best.0);
     }
     Ok(())
 }
@@ -95,6 +95,25 @@ fn print_all_advertised<H: Host, K: Sink>(
     Ok(())
 }
 
+// Gathers the line of a peer, if it is drained.
+#[tactic(auto, using(crate::proofs::GatherLemmas::gathered_nothing))]
+fn print_drained_peer<H: Host, K: Sink>(
+    host: &H,
+    peer: u32,
+    page: &mut Page,
+    sink: &mut K,
+) -> Result<(), Halt>
+    requires { IsPeer (H.built_from host.now) peer }
+    ensures { let line = drained_line_of (H.speaker host.now) peer in
+        Gathers K.took K.faults sink.old sink.new page.old page.new line result }
+{
+    if host.drained(peer) {
+        page.drained(peer, sink)
+    } else {
+        Ok(())
+    }
+}
+
 // Gathers a line for each peer that is drained.
 fn print_drained<H: Host, K: Sink>(
     host: &H,
@@ -107,9 +126,7 @@ fn print_drained<H: Host, K: Sink>(
         Gathers K.took K.faults sink.old sink.new page.old page.new lines result }
 {
     'peers: for i in 0..peers {
-        if host.drained(i + 1) {
-            page.drained(i + 1, sink)?;
-        }
+        print_drained_peer(host, i + 1, page, sink)?;
     }
     Ok(())
 }
@@ -151,6 +168,28 @@ fn print_maps<H: Host, K: Sink>(
     Ok(())
 }
 
+// Gathers the line of a fault of a program, if it was noted.
+#[tactic(auto, using(crate::proofs::GatherLemmas::gathered_nothing))]
+fn print_fault<H: Host, K: Sink>(
+    host: &H,
+    program: u32,
+    name: &str,
+    point: Point,
+    cause: Cause,
+    page: &mut Page,
+    sink: &mut K,
+) -> Result<(), Halt>
+    requires { program < length ((H.built_from host.now).manifest).programs }
+    ensures { let line = fault_line_of (H.speaker host.now) program name.now point cause in
+        Gathers K.took K.faults sink.old sink.new page.old page.new line result }
+{
+    if host.fault_noted(program, cause) {
+        page.fault(name, point, cause, sink)
+    } else {
+        Ok(())
+    }
+}
+
 // Gathers a line for each fault of a program that was noted.
 fn print_program_faults<H: Host, K: Sink>(
     host: &H,
@@ -165,9 +204,7 @@ fn print_program_faults<H: Host, K: Sink>(
         Gathers K.took K.faults sink.old sink.new page.old page.new lines result }
 {
     'causes: for cause in &CAUSES {
-        if host.fault_noted(program, *cause) {
-            page.fault(name, point, *cause, sink)?;
-        }
+        print_fault(host, program, name, point, *cause, page, sink)?;
     }
     Ok(())
 }

@@ -13,5 +13,5 @@ invariant-peers g l =
       room : MAX_CANONICAL ≤ l.section.capacity;
       lines : Gathered g.K.Sink.took g.K.Sink.faults l.fn.sink l.sink
           (l.fn.page ++ adv_lines (g.H.Host.built_from l.host) s) l.page
-          (flat_map (adv_lines_of s) (range_with_len (1 + l.i) (l.peers - l.i)));
+          (flat_map (adv_lines_of s) (range_with_len (l.i + 1) (l.peers - l.i)));
     }

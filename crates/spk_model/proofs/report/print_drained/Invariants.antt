@@ -10,4 +10,4 @@ invariant-peers g l =
     let s = g.H.Host.speaker l.host in
     Gathered g.K.Sink.took g.K.Sink.faults l.fn.sink l.sink
     (l.fn.page ++ drained_lines (g.H.Host.built_from l.host) s) l.page
-    (flat_map (drained_line_of s) (range_with_len (1 + l.i) (l.peers - l.i)))
+    (flat_map (drained_line_of s) (range_with_len (l.i + 1) (l.peers - l.i)))
