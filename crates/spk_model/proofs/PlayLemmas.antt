@@ -1,5 +1,5 @@
 -- How what is to come of a replay goes on by a line, and how a replay ends.
-use Rattle.std.proofs.Common.{◌≡◌, ◌≢◌, ◌⊎◌, ℕ, ◌+◌, ◌≤◌, length, List, [], ◌∷◌, ◌++◌, take, Option, Some, None, Result, Ok, Err, refl, sym, ◌∙◌, ap, subst, inl, inr, arith, append_assoc, flat_map, map}
+use Rattle.std.proofs.Common.{◌≡◌, ◌≢◌, ◌⊎◌, ℕ, ◌+◌, ◌≤◌, length, List, [], ◌∷◌, ◌++◌, take, drop, Option, Some, None, Result, Ok, Err, refl, sym, ◌∙◌, ap, subst, inl, inr, arith, append_assoc, flat_map, map}
 use Rattle.std.proofs.lemmas.List.{append-nil}
 use Rattle.std.proofs.lemmas.Grind.{flat_map-append}
 use Rattle.xb_domain.specs.Events.{Event}
@@ -12,14 +12,20 @@ use Rattle.xb_io.specs.declared.page.Halt.TheVariants as halts
 use Rattle.xb_io.proofs.PageLemmas.{gathered_begin, gathered_then, stops_then}
 use Rattle.replay_log.specs.Lines.{Line, blank_line, says, line_of}
 use Rattle.replay_log.specs.Logs.{Log, Ending, whole_log, bad_line, long_log, log, log_at, line_clock, clock_after, line_then, ended, after_line}
-use Rattle.replay_log.specs.Readings.{Next, next_line, next_end, next_line_too_long, next_log_too_long, next_at, log_by}
+use Rattle.replay_log.specs.Readings.{Next, next_line, next_end, next_line_too_long, next_log_too_long, next_at, log_by, Reading, AreAhead, IsReadAhead}
 use Rattle.replay_log.proofs.LogLemmas.{log_at-log_by}
+use Rattle.replay_log.proofs.FitLemmas.{IsFor-line_of}
+use Rattle.std.specs.Prelude.{MatchOption}
+use Rattle.std.specs.Result.{IsErrAnd}
+use Rattle.spk_model.specs.declared.stop.Stop.{Stop}
+use Rattle.spk_model.specs.declared.stop.Stop.TheVariants as stops
+use Rattle.spk_model.specs.declared.lines.End.{End}
 use Rattle.spk_model.specs.declared.host.Setup.{Setup}
 use Rattle.spk_model.specs.Turning.{Speaker, Happened, event, history}
 use Rattle.table_print.specs.Lines.{output_line}
 use Rattle.spk_model.specs.Reports.{output_lines, ending_text}
 use Rattle.spk_model.specs.Playing.{Coming, coming, text_to_come, then_ends}
-use Rattle.spk_model.specs.Ends.{line_happens, end_text, ending_of}
+use Rattle.spk_model.specs.Ends.{line_happens, end_text, ending_of, stop_of, Fits, IsBuiltFrom, Ended, Stopped, PlaysLines}
 use Rattle.spk_model.proofs.ClockLemmas.{event_clock}
 use Rattle.spk_model.proofs.GatherLemmas.{front_gathered}
 
@@ -109,3 +115,107 @@ text_onto setup outputs c d is =
 pub text_ends : (setup : Setup) (c : Coming) (s : Speaker) (ending : Ending) → c ≡ only_ends s ending
     → text_to_come setup c ≡ ending_text setup s ending
 text_ends setup c s ending is = ap (text_to_come setup) is
+
+-- a host of this setup took a line that came
+pub line_comes : (rule : Packing) (of setup : Setup) → of ≡ setup → (text : List ℕ) (at n after : ℕ) (s next : Speaker)
+    (octets : List ℕ) (said : Line) → next_line octets after ≡ next_at text at
+    → line_of (length (setup.config).peers) s.clock octets ≡ Some said → next ≡ (line_happens rule of s said).speaker
+    → coming rule setup text at n s
+    ≡ onto_coming (line_happens rule of s said).outputs (coming rule setup text after (n + 1) next)
+line_comes rule of setup built text at n after s next octets said is says_so then =
+    coming_line rule setup text at n after s octets said is says_so
+    ∙ ap (λ (x : Setup). onto_coming (line_happens rule x s said).outputs
+      (coming rule setup text after (n + 1) (line_happens rule x s said).speaker)) (sym built)
+    ∙ ap (λ (x : Speaker). onto_coming (line_happens rule of s said).outputs (coming rule setup text after (n + 1) x))
+      (sym then)
+
+-- the clock after a line
+pub happens_clock : (rule : Packing) (setup : Setup) (s : Speaker) (said : Line)
+    → ((line_happens rule setup s said).speaker).clock ≡ line_clock s.clock said
+happens_clock rule setup s blank_line = refl
+happens_clock rule setup s (says e) = event_clock rule setup s e
+
+-- what a line says, by another name for the number of peers and for the clock
+pub line_at : (peers here now clock : ℕ) (octets : List ℕ) (o : Option Line) → peers ≡ here → now ≡ clock
+    → o ≡ line_of peers now octets → line_of here clock octets ≡ o
+line_at peers here now clock octets o p q is =
+    sym (is ∙ ap (λ (k : ℕ). line_of k now octets) p ∙ ap (λ (k : ℕ). line_of here k octets) q)
+
+-- a host may take what a line says
+pub line_fits : (setup : Setup) (s : Speaker) (octets : List ℕ) (said : Line)
+    → line_of (length (setup.config).peers) s.clock octets ≡ Some said → Fits setup s said
+line_fits setup s octets blank_line is = tt
+line_fits setup s octets (says e) is = IsFor-line_of (length (setup.config).peers) s.clock octets e is
+
+-- nothing was read ahead
+pub nothing_ahead : (held : Option Files) (name : List ℕ) (r : Reading) → r.ahead ≡ [] → IsReadAhead held name r
+nothing_ahead held name r none = subst (λ (l : List ℕ). AreAhead held name r.at l) (sym none) (by held)
+  where
+    by_file : (o : Option (List ℕ)) → MatchOption o (◌≡◌ {A = List ℕ} [] []) (λ log. ◌≡◌ {A = List ℕ} [] (take 0 (drop r.at log)))
+    by_file None = refl
+    by_file (Some log) = refl
+
+    by : (h : Option Files) → AreAhead h name r.at []
+    by None = tt
+    by (Some files) = by_file (file_named files name)
+
+no_read_fault : (halt : Halt) → stop_of halt ≡ stops.ReadFault → ⊥
+no_read_fault halts.WriteFault e = cc e
+no_read_fault halts.OutOfMemory e = cc e
+
+write_fault : (halt : Halt) → stop_of halt ≡ stops.WriteFault → halt ≡ halts.WriteFault
+write_fault halts.WriteFault e = refl
+write_fault halts.OutOfMemory e = absurd (cc e)
+
+module _ {S K : Type 0} (held : S → Option Files) (reads : S → ℕ) (took : K → Option (List ℕ)) (writes : K → ℕ) where
+  -- there was no memory before anything was read
+  pub stopped_begin : (shelf : S) (sink : K) (name page : List ℕ) (whole : List ℕ → List ℕ)
+      → Stopped held reads took writes shelf shelf sink sink name (λ text. page ++ whole text) stops.OutOfMemory
+  stopped_begin shelf sink name page whole =
+      record {
+        front = λ text e. front_gathered took writes sink sink (page ++ whole text) page (whole text)
+            (gathered_begin took writes sink page (whole text));
+        missing = λ m. refl;
+        read_cause = λ e. absurd (cc e);
+        write_cause = λ e. absurd (cc e);
+        quiet_shelf = λ e. refl;
+        quiet_sink = λ e. refl;
+        later_shelf = omega arith;
+        later_sink = omega arith;
+        same = refl;
+      }
+
+  -- a text was not gathered or written to its end, after what was read and written before
+  pub stopped_halt : (shelf_old shelf_new : S) (sink_old sink_mid sink_new : K) (name : List ℕ)
+      (whole : List ℕ → List ℕ) (part : List ℕ) (halt : Halt)
+      → ((text : List ℕ) → told_file (held shelf_old) name ≡ Some text
+      → TookFront (took sink_old) (took sink_new) (whole text))
+      → ¬ IsMissing (held shelf_old) name → reads shelf_new ≡ reads shelf_old → held shelf_new ≡ held shelf_old
+      → writes sink_mid ≡ writes sink_old → Stops took writes sink_mid sink_new part halt
+      → Stopped held reads took writes shelf_old shelf_new sink_old sink_new name whole (stop_of halt)
+  stopped_halt shelf_old shelf_new sink_old sink_mid sink_new name whole part halt front is_held quiet same calm s =
+      record {
+        front = front;
+        missing = λ m. absurd (is_held m);
+        read_cause = λ e. absurd (no_read_fault halt e);
+        write_cause = λ e. subst (λ (n : ℕ). FaultsRose n (writes sink_new)) calm (s.fault (write_fault halt e));
+        quiet_shelf = λ e. quiet;
+        quiet_sink = λ e. absurd (no_read_fault halt e);
+        later_shelf = omega (arith, quiet);
+        later_sink = omega (arith, calm, s.later);
+        same = same;
+      }
+
+  module _ {H : Type 0} (rule : Packing) (built_from : H → Setup) (speaker : H → Speaker) (host : H) where
+    -- a call that hands a stop on by `?` ends as that says
+    pub plays_stopped : (shelf_old shelf_new : S) (sink_old sink_new : K) (name page next : List ℕ) (stop : Stop)
+        (result : Result (End H) Stop) → IsErrAnd result (λ s. s ≡ stop)
+        → Stopped held reads took writes shelf_old shelf_new sink_old sink_new name
+          (λ text. page ++ text_to_come (built_from host) (coming rule (built_from host) text 0 1 (speaker host))) stop
+        → PlaysLines rule built_from speaker host held reads took writes shelf_old shelf_new sink_old sink_new name page
+          next result
+    plays_stopped shelf_old shelf_new sink_old sink_new name page next stop (Ok end) wrong s = absurd wrong
+    plays_stopped shelf_old shelf_new sink_old sink_new name page next stop (Err other) same s =
+        subst (λ (x : Stop). Stopped held reads took writes shelf_old shelf_new sink_old sink_new name
+            (λ text. page ++ text_to_come (built_from host) (coming rule (built_from host) text 0 1 (speaker host))) x)
+        (sym same) s
