@@ -9,23 +9,26 @@ use Rattle.xb_io.specs.Causes.{Files, file_named, told_file, FaultsRose, IsMissi
 use Rattle.xb_io.specs.Pages.{Gathered, Stops, Puts, Gathers}
 use Rattle.xb_io.specs.declared.page.Halt.{Halt}
 use Rattle.xb_io.specs.declared.page.Halt.TheVariants as halts
-use Rattle.xb_io.proofs.PageLemmas.{gathered_begin, gathered_then, stops_then}
+use Rattle.xb_io.proofs.PageLemmas.{gathered_begin, gathered_then, stops_then, with_text-nil}
 use Rattle.replay_log.specs.Lines.{Line, blank_line, says, line_of}
 use Rattle.replay_log.specs.Logs.{Log, Ending, whole_log, bad_line, long_log, log, log_at, line_clock, clock_after, line_then, ended, after_line}
 use Rattle.replay_log.specs.Readings.{Next, next_line, next_end, next_line_too_long, next_log_too_long, next_at, log_by, Reading, AreAhead, IsReadAhead}
 use Rattle.replay_log.proofs.LogLemmas.{log_at-log_by}
 use Rattle.replay_log.proofs.FitLemmas.{IsFor-line_of}
-use Rattle.std.specs.Prelude.{MatchOption}
+use Rattle.std.specs.Prelude.{IsNone, MatchOption}
+use Rattle.std.proofs.Math.Seq.{take-length}
 use Rattle.std.specs.Result.{IsErrAnd}
 use Rattle.spk_model.specs.declared.stop.Stop.{Stop}
 use Rattle.spk_model.specs.declared.stop.Stop.TheVariants as stops
 use Rattle.spk_model.specs.declared.lines.End.{End}
+use Rattle.spk_model.specs.declared.play.Played.{Played}
+use Rattle.spk_model.specs.declared.play.Played.TheVariants.{ReadFault, WriteFault, OutOfMemory}
 use Rattle.spk_model.specs.declared.host.Setup.{Setup}
-use Rattle.spk_model.specs.Turning.{Speaker, Happened, event, history}
+use Rattle.spk_model.specs.Turning.{Speaker, Happened, event, history, start_of}
 use Rattle.table_print.specs.Lines.{output_line}
-use Rattle.spk_model.specs.Reports.{output_lines, ending_text}
-use Rattle.spk_model.specs.Playing.{Coming, coming, text_to_come, then_ends}
-use Rattle.spk_model.specs.Ends.{line_happens, end_text, ending_of, stop_of, Fits, IsBuiltFrom, Ended, Stopped, PlaysLines}
+use Rattle.spk_model.specs.Reports.{output_lines, ending_text, report}
+use Rattle.spk_model.specs.Playing.{Coming, coming, text_to_come, then_ends, played_by, replay_of, replayed, IsReplayed, Plays}
+use Rattle.spk_model.specs.Ends.{line_happens, end_text, ending_of, stop_of, played_by_stop, played_of, Fits, IsBuiltFrom, Ended, Stopped, PlaysLines}
 use Rattle.spk_model.proofs.ClockLemmas.{event_clock}
 use Rattle.spk_model.proofs.GatherLemmas.{front_gathered}
 
@@ -159,6 +162,30 @@ nothing_ahead held name r none = subst (λ (l : List ℕ). AreAhead held name r.
     by None = tt
     by (Some files) = by_file (file_named files name)
 
+none_is : {A : Type 0} (o : Option A) → o ≡ None → IsNone o
+none_is None e = tt
+none_is (Some x) e = absurd (cc e)
+
+-- no end of a log is a fault
+no_fault : (ending : Ending) (played : Played) → (played ≡ ReadFault) ⊎ (played ≡ WriteFault)
+    → played_by ending ≡ played → ⊥
+no_fault whole_log played (inl e) is = cc (e, is)
+no_fault whole_log played (inr e) is = cc (e, is)
+no_fault (bad_line n) played (inl e) is = cc (e, is)
+no_fault (bad_line n) played (inr e) is = cc (e, is)
+no_fault long_log played (inl e) is = cc (e, is)
+no_fault long_log played (inr e) is = cc (e, is)
+
+read_stop : (stop : Stop) → played_by_stop stop ≡ ReadFault → stop ≡ stops.ReadFault
+read_stop stops.ReadFault e = refl
+read_stop stops.WriteFault e = absurd (cc e)
+read_stop stops.OutOfMemory e = absurd (cc e)
+
+write_stop : (stop : Stop) → played_by_stop stop ≡ WriteFault → stop ≡ stops.WriteFault
+write_stop stops.WriteFault e = refl
+write_stop stops.ReadFault e = absurd (cc e)
+write_stop stops.OutOfMemory e = absurd (cc e)
+
 no_read_fault : (halt : Halt) → stop_of halt ≡ stops.ReadFault → ⊥
 no_read_fault halts.WriteFault e = cc e
 no_read_fault halts.OutOfMemory e = cc e
@@ -219,3 +246,150 @@ module _ {S K : Type 0} (held : S → Option Files) (reads : S → ℕ) (took : 
         subst (λ (x : Stop). Stopped held reads took writes shelf_old shelf_new sink_old sink_new name
             (λ text. page ++ text_to_come (built_from host) (coming rule (built_from host) text 0 1 (speaker host))) x)
         (sym same) s
+
+  -- the same of another name for the text
+  pub stopped_as : (shelf_old shelf_new : S) (sink_old sink_new : K) (name : List ℕ) (whole other : List ℕ → List ℕ)
+      (stop : Stop) → ((text : List ℕ) → whole text ≡ other text)
+      → Stopped held reads took writes shelf_old shelf_new sink_old sink_new name whole stop
+      → Stopped held reads took writes shelf_old shelf_new sink_old sink_new name other stop
+  stopped_as shelf_old shelf_new sink_old sink_new name whole other stop same s =
+      record {
+        front = λ text e. subst (λ l. TookFront (took sink_old) (took sink_new) l) (same text) (s.front text e);
+        missing = s.missing;
+        read_cause = s.read_cause;
+        write_cause = s.write_cause;
+        quiet_shelf = s.quiet_shelf;
+        quiet_sink = s.quiet_sink;
+        later_shelf = s.later_shelf;
+        later_sink = s.later_sink;
+        same = s.same;
+      }
+
+  module _ (rule : Packing) (setup : Setup) (name : List ℕ) (shelf_old shelf_new : S) (sink_old sink_new : K) where
+    -- a front of what is written of a log was taken, be it held or not
+    front_of : (files : Files) → held shelf_old ≡ Some files
+        → ((text : List ℕ) → told_file (held shelf_old) name ≡ Some text
+        → TookFront (took sink_old) (took sink_new) (report rule setup text))
+        → (IsMissing (held shelf_old) name → took sink_new ≡ took sink_old)
+        → TookFront (took sink_old) (took sink_new) (replayed rule setup name files).text
+    front_of files is front missing = by (file_named files name) refl
+      where
+        by : (o : Option (List ℕ)) → file_named files name ≡ o
+            → TookFront (took sink_old) (took sink_new) (replay_of rule setup o).text
+        by None e =
+            (0, missing (subst (λ (h : Option Files). IsMissing h name) (sym is) (none_is (file_named files name) e))
+            ∙ with_text-nil (took sink_old))
+        by (Some text) e = front text (ap (λ (h : Option Files). told_file h name) is ∙ e)
+
+    -- a replay was stopped
+    stopped_exact : (stop : Stop)
+        → Stopped held reads took writes shelf_old shelf_new sink_old sink_new name (λ text. report rule setup text) stop
+        → (files : Files) → held shelf_old ≡ Some files → ¬ FaultsRose (reads shelf_old) (reads shelf_new)
+        → ¬ FaultsRose (writes sink_old) (writes sink_new) → played_by_stop stop ≢ OutOfMemory
+        → IsReplayed (replayed rule setup name files) (took sink_old) (took sink_new) (played_by_stop stop)
+    stopped_exact stops.WriteFault s files is calm_reads calm_writes memory = absurd (calm_writes (s.write_cause refl))
+    stopped_exact stops.OutOfMemory s files is calm_reads calm_writes memory = absurd (memory refl)
+    stopped_exact stops.ReadFault s files is calm_reads calm_writes memory = elim (s.read_cause refl) [
+      | inl rose ↦ absurd (calm_reads rose)
+      | inr missing ↦ by (file_named files name) (subst (λ (h : Option Files). IsMissing h name) is missing)
+    ]
+      where
+        by : (o : Option (List ℕ)) → IsNone o
+            → IsReplayed (replay_of rule setup o) (took sink_old) (took sink_new) ReadFault
+        by None none = (refl, λ other. absurd (other refl))
+        by (Some text) none = absurd none
+
+    stopped_quiet : (stop : Stop)
+        → Stopped held reads took writes shelf_old shelf_new sink_old sink_new name (λ text. report rule setup text) stop
+        → played_by_stop stop ≢ WriteFault → played_by_stop stop ≢ OutOfMemory → writes sink_new ≡ writes sink_old
+    stopped_quiet stops.ReadFault s a b = s.quiet_sink refl
+    stopped_quiet stops.WriteFault s a b = absurd (a refl)
+    stopped_quiet stops.OutOfMemory s a b = absurd (b refl)
+
+    stopped_plays : (stop : Stop)
+        → Stopped held reads took writes shelf_old shelf_new sink_old sink_new name (λ text. report rule setup text) stop
+        → Plays held reads took writes shelf_old shelf_new sink_old sink_new name (replayed rule setup name)
+          (played_by_stop stop)
+    stopped_plays stop s =
+        record {
+          exact = stopped_exact stop s;
+          front = λ files is. front_of files is s.front s.missing;
+          read_cause = λ e. s.read_cause (read_stop stop e);
+          write_cause = λ e. s.write_cause (write_stop stop e);
+          quiet_shelf = λ e. s.quiet_shelf (λ is. e (ap played_by_stop is));
+          quiet_sink = stopped_quiet stop s;
+          later_shelf = s.later_shelf;
+          later_sink = s.later_sink;
+          same = s.same;
+        }
+
+    -- a call that hands a stop on by `?` ends as that says
+    pub plays_stop : (stop : Stop) (result : Result Played Stop) → IsErrAnd result (λ s. s ≡ stop)
+        → Stopped held reads took writes shelf_old shelf_new sink_old sink_new name (λ text. report rule setup text) stop
+        → Plays held reads took writes shelf_old shelf_new sink_old sink_new name (replayed rule setup name)
+          (played_of result)
+    plays_stop stop (Ok played) wrong s = absurd wrong
+    plays_stop stop (Err other) same s =
+        subst (λ (x : Stop). Plays held reads took writes shelf_old shelf_new sink_old sink_new name
+            (replayed rule setup name) (played_by_stop x))
+        (sym same) (stopped_plays stop s)
+
+    -- the whole report of a log that is held was written
+    pub plays_ended : (ending : Ending) (played : Played) → played ≡ played_by ending
+        → ¬ IsMissing (held shelf_old) name
+        → ((text : List ℕ) → told_file (held shelf_old) name ≡ Some text
+        → ((log (length (setup.config).peers) text).ending ≡ ending)
+        × (took sink_new ≡ with_text (took sink_old) (report rule setup text)))
+        → reads shelf_new ≡ reads shelf_old → writes sink_new ≡ writes sink_old → held shelf_new ≡ held shelf_old
+        → Plays held reads took writes shelf_old shelf_new sink_old sink_new name (replayed rule setup name) played
+    plays_ended ending played is is_held written quiet calm same =
+        record {
+          exact = λ files has a b memory. exact files has (file_named files name) refl;
+          front = λ files has. front_of files has
+              (λ text e. (length (report rule setup text), (written text e).1
+              ∙ ap (with_text (took sink_old)) (sym (take-length (report rule setup text)))))
+              (λ m. absurd (is_held m));
+          read_cause = λ e. absurd (no_fault ending ReadFault (inl refl) (sym is ∙ e));
+          write_cause = λ e. absurd (no_fault ending WriteFault (inr refl) (sym is ∙ e));
+          quiet_shelf = λ e. quiet;
+          quiet_sink = λ a b. calm;
+          later_shelf = omega (arith, quiet);
+          later_sink = omega (arith, calm);
+          same = same;
+        }
+      where
+        exact : (files : Files) → held shelf_old ≡ Some files → (o : Option (List ℕ)) → file_named files name ≡ o
+            → IsReplayed (replay_of rule setup o) (took sink_old) (took sink_new) played
+        exact files has None e =
+            absurd (is_held (subst (λ (h : Option Files). IsMissing h name) (sym has) (none_is (file_named files name) e)))
+        exact files has (Some text) e =
+            let w = written text (ap (λ (h : Option Files). told_file h name) has ∙ e) in
+            (is ∙ ap played_by (sym w.0), λ other. w.1)
+
+report_comes : (rule : Packing) (setup : Setup) (text : List ℕ)
+    → text_to_come setup (coming rule setup text 0 1 (start_of setup)) ≡ report rule setup text
+unfolding coming report
+report_comes rule setup text = refl
+
+ending_comes : (rule : Packing) (setup : Setup) (text : List ℕ)
+    → (log (length (setup.config).peers) text).ending ≡ (coming rule setup text 0 1 (start_of setup)).ending
+unfolding coming
+ending_comes rule setup text = refl
+
+-- the text of a whole replay is its report
+pub whole_report : (rule : Packing) (setup built : Setup) (start : Speaker) (page text : List ℕ) → page ≡ []
+    → built ≡ setup → start ≡ start_of setup
+    → page ++ text_to_come built (coming rule built text 0 1 start) ≡ report rule setup text
+whole_report rule setup built start page text empty is begins =
+    ap (λ l. l ++ text_to_come built (coming rule built text 0 1 start)) empty
+    ∙ ap (λ (x : Setup). text_to_come x (coming rule x text 0 1 start)) is
+    ∙ ap (λ (s : Speaker). text_to_come setup (coming rule setup text 0 1 s)) begins
+    ∙ report_comes rule setup text
+
+-- how a log ends
+pub whole_ending : (rule : Packing) (setup built : Setup) (start : Speaker) (text : List ℕ) → built ≡ setup
+    → start ≡ start_of setup
+    → (log (length (setup.config).peers) text).ending ≡ (coming rule built text 0 1 start).ending
+whole_ending rule setup built start text is begins =
+    ending_comes rule setup text ∙ ap (λ (s : Speaker). (coming rule setup text 0 1 s).ending) (sym begins)
+    ∙ ap (λ (x : Setup). (coming rule x text 0 1 start).ending) (sym is)
