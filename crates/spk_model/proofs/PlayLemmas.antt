@@ -9,7 +9,7 @@ use Rattle.xb_io.specs.Causes.{Files, file_named, told_file, FaultsRose, IsMissi
 use Rattle.xb_io.specs.Pages.{Gathered, Stops, Puts, Gathers}
 use Rattle.xb_io.specs.declared.page.Halt.{Halt}
 use Rattle.xb_io.specs.declared.page.Halt.TheVariants as halts
-use Rattle.xb_io.proofs.PageLemmas.{gathered_begin, gathered_then, stops_then, with_text-nil}
+use Rattle.xb_io.proofs.PageLemmas.{gathered_begin, gathered_then, puts_gathered, stops_then, with_text-nil}
 use Rattle.replay_log.specs.Lines.{Line, blank_line, says, line_of}
 use Rattle.replay_log.specs.Logs.{Log, Ending, whole_log, bad_line, long_log, log, log_at, line_clock, clock_after, line_then, ended, after_line}
 use Rattle.replay_log.specs.Readings.{Next, next_line, next_end, next_line_too_long, next_log_too_long, next_at, log_by, Reading, AreAhead, IsReadAhead}
@@ -21,6 +21,8 @@ use Rattle.std.specs.Result.{IsErrAnd}
 use Rattle.spk_model.specs.declared.stop.Stop.{Stop}
 use Rattle.spk_model.specs.declared.stop.Stop.TheVariants as stops
 use Rattle.spk_model.specs.declared.lines.End.{End}
+use Rattle.spk_model.specs.declared.lines.End.TheVariants as ends
+use Rattle.spk_model.specs.Names.{Named, names_of}
 use Rattle.spk_model.specs.declared.play.Played.{Played}
 use Rattle.spk_model.specs.declared.play.Played.TheVariants.{ReadFault, WriteFault, OutOfMemory}
 use Rattle.spk_model.specs.declared.host.Setup.{Setup}
@@ -28,9 +30,9 @@ use Rattle.spk_model.specs.Turning.{Speaker, Happened, event, history, start_of}
 use Rattle.table_print.specs.Lines.{output_line}
 use Rattle.spk_model.specs.Reports.{output_lines, ending_text, report}
 use Rattle.spk_model.specs.Playing.{Coming, coming, text_to_come, then_ends, played_by, replay_of, replayed, IsReplayed, Plays}
-use Rattle.spk_model.specs.Ends.{line_happens, end_text, ending_of, stop_of, played_by_stop, played_of, Fits, IsBuiltFrom, Ended, Stopped, PlaysLines}
+use Rattle.spk_model.specs.Ends.{line_happens, end_text, ending_of, stop_of, played_by_stop, played_of, Fits, IsBuiltFrom, IsEnd, Ended, Stopped, PlaysLines}
 use Rattle.spk_model.proofs.ClockLemmas.{event_clock}
-use Rattle.spk_model.proofs.GatherLemmas.{front_gathered}
+use Rattle.spk_model.proofs.GatherLemmas.{front_gathered, gathered_line}
 
 -- what is to come of a log, from a speaker on
 abbrev come_by : Packing → Setup → Speaker → Log → Coming
@@ -163,7 +165,7 @@ nothing_ahead held name r none = subst (λ (l : List ℕ). AreAhead held name r.
     by (Some files) = by_file (file_named files name)
 
 none_is : {A : Type 0} (o : Option A) → o ≡ None → IsNone o
-none_is None e = tt
+none_is None e = refl
 none_is (Some x) e = absurd (cc e)
 
 -- no end of a log is a fault
@@ -297,7 +299,7 @@ module _ {S K : Type 0} (held : S → Option Files) (reads : S → ℕ) (took : 
         by : (o : Option (List ℕ)) → IsNone o
             → IsReplayed (replay_of rule setup o) (took sink_old) (took sink_new) ReadFault
         by None none = (refl, λ other. absurd (other refl))
-        by (Some text) none = absurd none
+        by (Some text) none = absurd (cc none)
 
     stopped_quiet : (stop : Stop)
         → Stopped held reads took writes shelf_old shelf_new sink_old sink_new name (λ text. report rule setup text) stop
@@ -393,3 +395,65 @@ pub whole_ending : (rule : Packing) (setup built : Setup) (start : Speaker) (tex
 whole_ending rule setup built start text is begins =
     ending_comes rule setup text ∙ ap (λ (s : Speaker). (coming rule setup text 0 1 s).ending) (sym begins)
     ∙ ap (λ (x : Setup). (coming rule x text 0 1 start).ending) (sym is)
+
+-- the names and the number of peers of a setup are those of a host that was built from it
+pub end_names : {H : Type 0} (built_from : H → Setup) (setup : Setup) (names : Named) (peers : ℕ) (end : End H)
+    → names ≡ names_of setup.manifest → peers ≡ length (setup.config).peers → IsBuiltFrom built_from setup end
+    → IsEnd built_from names peers end
+end_names built_from setup names peers (ends.Whole host) p q is =
+    (p ∙ ap (λ (x : Setup). names_of x.manifest) (sym is), q ∙ ap (λ (x : Setup). length (x.config).peers) (sym is))
+end_names built_from setup names peers (ends.BadLine n) p q is = tt
+end_names built_from setup names peers ends.LongLog p q is = tt
+
+module _ {H S K : Type 0} (rule : Packing) (built_from : H → Setup) (speaker : H → Speaker) (host : H)
+    (held : S → Option Files) (reads : S → ℕ) (took : K → Option (List ℕ)) (writes : K → ℕ) (end : End H)
+    (shelf_old shelf_new : S) (sink_old sink_mid : K) (name page mid : List ℕ)
+    (ended : Ended rule built_from speaker host held reads took writes shelf_old shelf_new sink_old sink_mid name page mid
+      end) where
+  abbrev whole_of : List ℕ → List ℕ
+  whole_of text = text_to_come (built_from host) (coming rule (built_from host) text 0 1 (speaker host))
+
+  -- what follows the outputs was not gathered to its end
+  pub stopped_end : (sink_new : K) (halt : Halt)
+      → Stops took writes sink_mid sink_new (mid ++ end_text built_from speaker end) halt
+      → Stopped held reads took writes shelf_old shelf_new sink_old sink_new name (λ text. page ++ whole_of text)
+        (stop_of halt)
+  stopped_end sink_new halt s =
+      let last = end_text built_from speaker end in
+      stopped_halt held reads took writes shelf_old shelf_new sink_old sink_mid sink_new name
+      (λ text. page ++ whole_of text) (mid ++ last) halt
+      (λ text e. (stops_then took writes sink_old sink_mid sink_new (page ++ whole_of text) mid last [] halt
+      (subst (λ l. Gathered took writes sink_old sink_mid (page ++ whole_of text) mid l) (sym (append-nil last))
+      (ended.gathered text e)) s).front)
+      ended.is_held ended.quiet_shelf ended.same ended.quiet_sink s
+
+  module _ (sink_late sink_new : K) (late : List ℕ) (empty : page ≡ [])
+      (gathered : Gathered took writes sink_mid sink_late (mid ++ end_text built_from speaker end) late []) where
+    puts_whole : (text : List ℕ) → told_file (held shelf_old) name ≡ Some text → (result : Result (Unit {0}) Halt)
+        → Puts took writes sink_late sink_new late result
+        → Puts took writes sink_old sink_new (whole_of text) result
+    puts_whole text e result p =
+        let last = end_text built_from speaker end in
+        puts_gathered took writes sink_old sink_late sink_new page (whole_of text) late result empty
+        (gathered_line took writes sink_old sink_mid sink_late (page ++ whole_of text) mid late last last []
+        (sym (append-nil last)) (ended.gathered text e) gathered) p
+
+    -- the page was not written to its end
+    pub stopped_put : (halt : Halt) → Stops took writes sink_late sink_new late halt
+        → Stopped held reads took writes shelf_old shelf_new sink_old sink_new name (λ text. page ++ whole_of text)
+          (stop_of halt)
+    stopped_put halt s =
+        stopped_halt held reads took writes shelf_old shelf_new sink_old sink_late sink_new name
+        (λ text. page ++ whole_of text) late halt
+        (λ text e. subst (λ l. TookFront (took sink_old) (took sink_new) (l ++ whole_of text)) (sym empty)
+        (puts_whole text e (Err halt) s).front)
+        ended.is_held ended.quiet_shelf ended.same (gathered.quiet ∙ ended.quiet_sink) s
+
+    -- the whole text was written
+    pub written_whole : Puts took writes sink_late sink_new late (Ok tt)
+        → (text : List ℕ) → told_file (held shelf_old) name ≡ Some text
+        → took sink_new ≡ with_text (took sink_old) (whole_of text)
+    written_whole p text e = (puts_whole text e (Ok tt) p).0
+
+    pub written_calm : Puts took writes sink_late sink_new late (Ok tt) → writes sink_new ≡ writes sink_old
+    written_calm p = p.1 ∙ gathered.quiet ∙ ended.quiet_sink

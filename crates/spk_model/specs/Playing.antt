@@ -48,7 +48,7 @@ pub record Plays {S K : Type 0} (held : S → Option Files) (reads : S → ℕ)
   pub read_cause : played ≡ ReadFault
       → FaultsRose (reads shelf_old) (reads shelf_new) ⊎ IsMissing (held shelf_old) name
   pub write_cause : played ≡ WriteFault → FaultsRose (writes sink_old) (writes sink_new)
-  pub quiet_shelf : played ≢ ReadFault → played ≢ OutOfMemory → reads shelf_new ≡ reads shelf_old
+  pub quiet_shelf : played ≢ ReadFault → reads shelf_new ≡ reads shelf_old
   pub quiet_sink : played ≢ WriteFault → played ≢ OutOfMemory → writes sink_new ≡ writes sink_old
   pub later_shelf : reads shelf_old ≤ reads shelf_new
   pub later_sink : writes sink_old ≤ writes sink_new
