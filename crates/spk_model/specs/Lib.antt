@@ -1,7 +1,6 @@
 pub mod Sources
 pub mod Choosing
 pub mod Tournaments
-pub mod Carry
 pub mod Exporting
 pub mod Routing
 pub mod Turning
@@ -10,3 +9,4 @@ pub mod Reports
 pub mod Playing
 pub mod Names
 pub mod Ends
+pub mod Laws
