@@ -1,21 +1,24 @@
 -- Only an event of the clock moves the clock.
-use Rattle.std.proofs.Common.{◌≡◌, refl, ◌∙◌, ℕ, zero, suc, Bool, true, false, List, [], ◌∷◌, ◌++◌, Option, Some, None, fold, length}
-use Rattle.std.specs.Prelude.{if◌then◌else◌, nat_lt, nat_le, ◌==◌, take, drop}
+use Rattle.std.proofs.Common.{◌≡◌, refl, ◌∙◌, ℕ, zero, suc, Bool, true, false, List, [], ◌∷◌, Option, Some, None, fold}
+use Rattle.std.proofs.Common.{length}
+use Rattle.std.specs.Prelude.{if◌then◌else◌, nat_lt, take, drop}
 use Rattle.xb_domain.specs.Events.{Event, start, stop, up, down, octets, time, room, drain, rescan}
 use Rattle.xb_domain.specs.declared.output.Packing.{Packing}
-use Rattle.xb_wire.specs.declared.numbers.TheConstants.{OPEN, UPDATE, NOTIFICATION}
-use Rattle.xb_wire.specs.Messages.{Notification, message_size, front_fault, message_kind, message_body}
-use Rattle.bgp_write.specs.Pending.{Formed, form}
+use Rattle.xb_wire.specs.Messages.{Notification, message_size, front_fault}
+use Rattle.bgp_write.specs.Pending.{Formed}
 use Rattle.bgp_fsm.specs.declared.Act.{Act}
 use Rattle.bgp_fsm.specs.declared.Act.TheVariants as acts
 use Rattle.bgp_fsm.specs.declared.State.{State}
 use Rattle.bgp_fsm.specs.declared.State.TheVariants.{Idle, Connect, OpenSent, OpenConfirm, Established}
 use Rattle.bgp_fsm.specs.declared.Stimulus.{Stimulus}
-use Rattle.bgp_fsm.specs.declared.Stimulus.TheVariants as stimuli
 use Rattle.bgp_fsm.specs.Sessions.{is_live, row}
 use Rattle.replay_log.specs.Logs.{clock_after}
 use Rattle.spk_model.specs.declared.host.Setup.{Setup}
-use Rattle.spk_model.specs.Turning.{Speaker, Turn, Due, control, act, react, refuse, judged_open, open_in, judged_update, update_in, message_in, front_in, when_true, take_turns, octets_in, fire_in_time, fire_first, time_turns, time_to, form_next, rest_or_form, unless_spent, emit_turns, emit, is_spent, rest_of, wait_of, set_wait, state_of, session_at, set_session, turn, before, event}
+use Rattle.spk_model.specs.Turning.{Speaker, Turn, Due, control, act, react, refuse, judged_open, open_in}
+use Rattle.spk_model.specs.Turning.{judged_update, update_in, message_in, front_in, when_true, take_turns, octets_in}
+use Rattle.spk_model.specs.Turning.{fire_in_time, fire_first, time_turns, time_to, form_next, rest_or_form}
+use Rattle.spk_model.specs.Turning.{unless_spent, emit_turns, emit, is_spent, rest_of, wait_of, set_wait, state_of}
+use Rattle.spk_model.specs.Turning.{session_at, set_session, turn, before, event}
 
 abbrev clock_of : Turn → ℕ
 clock_of t = (t.speaker).clock
@@ -102,7 +105,8 @@ module _ (setup : Setup) where
   take_turns_keeps zero t p = refl
   take_turns_keeps (suc turns) t p =
       when_true_keeps (is_live (state_of t p))
-      (λ u. front_in setup (λ v. take_turns setup turns v p) u p (message_size (wait_of u p)) (front_fault (wait_of u p))) t
+      (λ u. front_in setup (λ v. take_turns setup turns v p) u p (message_size (wait_of u p))
+      (front_fault (wait_of u p))) t
       (front_in_keeps (λ v. take_turns setup turns v p) (λ v. take_turns_keeps turns v p) t p _ _)
 
   octets_in_keeps : (t : Turn) (p : ℕ) (bytes : List ℕ) → clock_of (octets_in setup t p bytes) ≡ clock_of t

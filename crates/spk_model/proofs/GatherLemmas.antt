@@ -1,9 +1,10 @@
 -- Lines that are gathered one after another.
-use Rattle.std.proofs.Common.{◌≡◌, ℕ, ◌+◌, ◌≤◌, List, [], ◌++◌, length, take, Option, Result, Ok, Err, refl, sym, ◌∙◌, ap, subst, arith, append_assoc}
+use Rattle.std.proofs.Common.{◌≡◌, ℕ, List, [], ◌++◌, length, take, Option, Result, Ok, Err, refl, sym, ◌∙◌, ap, subst}
+use Rattle.std.proofs.Common.{arith}
 use Rattle.std.specs.Result.{IsErrAnd}
 use Rattle.std.proofs.lemmas.List.{append-nil, take_at}
 use Rattle.xb_io.specs.Causes.{TookFront, with_text}
-use Rattle.xb_io.specs.Pages.{Gathered, Gathers, Puts, Stops}
+use Rattle.xb_io.specs.Pages.{Gathered, Gathers, Stops}
 use Rattle.xb_io.specs.declared.page.Halt.{Halt}
 use Rattle.xb_io.specs.declared.page.Halt.TheVariants.{OutOfMemory}
 use Rattle.xb_io.proofs.PageLemmas.{gathered_begin, gathered_then, gathers_stopped, stops_then}
@@ -75,6 +76,7 @@ module _ {K : Type 0} (took : K → Option (List ℕ)) (faults : K → ℕ) wher
       (subst (λ l. Gathered took faults old mid (page0 ++ all) page l) (sym (append-nil text)) g) s
 
   -- there is nothing to gather
-  pub gathered_nothing : (old : K) (page line : List ℕ) → line ≡ [] → Gathered took faults old old (page ++ line) page []
+  pub gathered_nothing : (old : K) (page line : List ℕ) → line ≡ [] → Gathered took faults old old (page ++ line) page
+      []
   gathered_nothing old page line none =
       subst (λ l. Gathered took faults old old (page ++ l) page []) (sym none) (gathered_begin took faults old page [])

@@ -1,18 +1,20 @@
 -- How what is to come of a replay goes on by a line, and how a replay ends.
-use Rattle.std.proofs.Common.{◌≡◌, ◌≢◌, ◌⊎◌, ℕ, ◌+◌, ◌≤◌, length, List, [], ◌∷◌, ◌++◌, take, drop, Option, Some, None, Result, Ok, Err, refl, sym, ◌∙◌, ap, subst, inl, inr, arith, append_assoc, flat_map, map}
+use Rattle.std.proofs.Common.{◌≡◌, ◌≢◌, ◌⊎◌, ℕ, ◌+◌, length, List, [], ◌++◌, take, drop, Option, Some, None, Result, Ok}
+use Rattle.std.proofs.Common.{Err, refl, sym, ◌∙◌, ap, subst, inl, inr, arith, append_assoc}
 use Rattle.std.proofs.lemmas.List.{append-nil}
 use Rattle.std.proofs.lemmas.Grind.{flat_map-append}
-use Rattle.xb_domain.specs.Events.{Event}
 use Rattle.xb_domain.specs.Outputs.{Output}
 use Rattle.xb_domain.specs.declared.output.Packing.{Packing}
 use Rattle.xb_io.specs.Causes.{Files, file_named, told_file, FaultsRose, IsMissing, TookFront, with_text}
-use Rattle.xb_io.specs.Pages.{Gathered, Stops, Puts, Gathers}
+use Rattle.xb_io.specs.Pages.{Gathered, Stops, Puts}
 use Rattle.xb_io.specs.declared.page.Halt.{Halt}
 use Rattle.xb_io.specs.declared.page.Halt.TheVariants as halts
-use Rattle.xb_io.proofs.PageLemmas.{gathered_begin, gathered_then, puts_gathered, stops_then, with_text-nil}
+use Rattle.xb_io.proofs.PageLemmas.{gathered_begin, puts_gathered, stops_then, with_text-nil}
 use Rattle.replay_log.specs.Lines.{Line, blank_line, says, line_of}
-use Rattle.replay_log.specs.Logs.{Log, Ending, whole_log, bad_line, long_log, log, log_at, line_clock, clock_after, line_then, ended, after_line}
-use Rattle.replay_log.specs.Readings.{Next, next_line, next_end, next_line_too_long, next_log_too_long, next_at, log_by, Reading, AreAhead, IsReadAhead}
+use Rattle.replay_log.specs.Logs.{Log, Ending, whole_log, bad_line, long_log, log, log_at, line_clock, line_then, ended}
+use Rattle.replay_log.specs.Logs.{after_line}
+use Rattle.replay_log.specs.Readings.{Next, next_line, next_end, next_line_too_long, next_log_too_long, next_at, log_by}
+use Rattle.replay_log.specs.Readings.{Reading, AreAhead, IsReadAhead}
 use Rattle.replay_log.proofs.LogLemmas.{log_at-log_by}
 use Rattle.replay_log.proofs.FitLemmas.{IsFor-line_of}
 use Rattle.std.specs.Prelude.{IsNone, MatchOption}
@@ -26,11 +28,13 @@ use Rattle.spk_model.specs.Names.{Named, names_of}
 use Rattle.spk_model.specs.declared.play.Played.{Played}
 use Rattle.spk_model.specs.declared.play.Played.TheVariants.{ReadFault, WriteFault, OutOfMemory}
 use Rattle.spk_model.specs.declared.host.Setup.{Setup}
-use Rattle.spk_model.specs.Turning.{Speaker, Happened, event, history, start_of}
+use Rattle.spk_model.specs.Turning.{Speaker, event, history, start_of}
 use Rattle.table_print.specs.Lines.{output_line}
 use Rattle.spk_model.specs.Reports.{output_lines, ending_text, report}
-use Rattle.spk_model.specs.Playing.{Coming, coming, text_to_come, then_ends, played_by, replay_of, replayed, IsReplayed, Plays}
-use Rattle.spk_model.specs.Ends.{line_happens, end_text, ending_of, stop_of, played_by_stop, played_of, Fits, IsBuiltFrom, IsEnd, Ended, Stopped, PlaysLines}
+use Rattle.spk_model.specs.Playing.{Coming, coming, text_to_come, then_ends, played_by, replay_of, replayed, IsReplayed}
+use Rattle.spk_model.specs.Playing.{Plays}
+use Rattle.spk_model.specs.Ends.{line_happens, end_text, stop_of, played_by_stop, played_of, Fits, IsBuiltFrom, IsEnd}
+use Rattle.spk_model.specs.Ends.{Ended, Stopped, PlaysLines}
 use Rattle.spk_model.proofs.ClockLemmas.{event_clock}
 use Rattle.spk_model.proofs.GatherLemmas.{front_gathered, gathered_line}
 
@@ -58,15 +62,15 @@ module _ (rule : Packing) (setup : Setup) where
 
   said_then : (text : List ℕ) (after n : ℕ) (s : Speaker) (said : Line)
       → come_by rule setup s
-        (line_then said (log_at (length (setup.config).peers) text after (n + 1) (line_clock s.clock said)))
+      (line_then said (log_at (length (setup.config).peers) text after (n + 1) (line_clock s.clock said)))
       ≡ onto_coming (line_happens rule setup s said).outputs
-        (coming rule setup text after (n + 1) (line_happens rule setup s said).speaker)
+      (coming rule setup text after (n + 1) (line_happens rule setup s said).speaker)
   unfolding coming history
   said_then text after n s blank_line = refl
   said_then text after n s (says e) =
       ap (λ (clock : ℕ). let l = log_at (length (setup.config).peers) text after (n + 1) clock in
-        onto_coming (event rule setup s e).outputs
-          (then_ends l.ending (history rule setup (event rule setup s e).speaker l.events)))
+      onto_coming (event rule setup s e).outputs
+      (then_ends l.ending (history rule setup (event rule setup s e).speaker l.events)))
       (sym (event_clock rule setup s e))
 
   no_more : (s : Speaker) (ending : Ending) → come_by rule setup s (ended ending) ≡ only_ends s ending
@@ -78,11 +82,11 @@ module _ (rule : Packing) (setup : Setup) where
       → next_line octets after ≡ next_at text at → line_of (length (setup.config).peers) s.clock octets ≡ Some said
       → coming rule setup text at n s
       ≡ onto_coming (line_happens rule setup s said).outputs
-        (coming rule setup text after (n + 1) (line_happens rule setup s said).speaker)
+      (coming rule setup text after (n + 1) (line_happens rule setup s said).speaker)
   coming_line text at n after s octets said is says_so =
       coming_by text at n s (next_line octets after) is
       ∙ ap (λ (o : Option Line). come_by rule setup s (after_line n
-        (λ l. log_at (length (setup.config).peers) text after (n + 1) (line_clock s.clock l)) o)) says_so
+      (λ l. log_at (length (setup.config).peers) text after (n + 1) (line_clock s.clock l)) o)) says_so
       ∙ said_then text after n s said
 
   -- a line comes that is outside the grammar
@@ -92,7 +96,7 @@ module _ (rule : Packing) (setup : Setup) where
   coming_bad text at n after s octets is not_said =
       coming_by text at n s (next_line octets after) is
       ∙ ap (λ (o : Option Line). come_by rule setup s (after_line n
-        (λ l. log_at (length (setup.config).peers) text after (n + 1) (line_clock s.clock l)) o)) not_said
+      (λ l. log_at (length (setup.config).peers) text after (n + 1) (line_clock s.clock l)) o)) not_said
       ∙ no_more s (bad_line n)
 
   -- the log ends, or what comes is too long
@@ -130,9 +134,9 @@ pub line_comes : (rule : Packing) (of setup : Setup) → of ≡ setup → (text 
 line_comes rule of setup built text at n after s next octets said is says_so then =
     coming_line rule setup text at n after s octets said is says_so
     ∙ ap (λ (x : Setup). onto_coming (line_happens rule x s said).outputs
-      (coming rule setup text after (n + 1) (line_happens rule x s said).speaker)) (sym built)
+    (coming rule setup text after (n + 1) (line_happens rule x s said).speaker)) (sym built)
     ∙ ap (λ (x : Speaker). onto_coming (line_happens rule of s said).outputs (coming rule setup text after (n + 1) x))
-      (sym then)
+    (sym then)
 
 -- the clock after a line
 pub happens_clock : (rule : Packing) (setup : Setup) (s : Speaker) (said : Line)
@@ -156,7 +160,8 @@ line_fits setup s octets (says e) is = IsFor-line_of (length (setup.config).peer
 pub nothing_ahead : (held : Option Files) (name : List ℕ) (r : Reading) → r.ahead ≡ [] → IsReadAhead held name r
 nothing_ahead held name r none = subst (λ (l : List ℕ). AreAhead held name r.at l) (sym none) (by held)
   where
-    by_file : (o : Option (List ℕ)) → MatchOption o (◌≡◌ {A = List ℕ} [] []) (λ log. ◌≡◌ {A = List ℕ} [] (take 0 (drop r.at log)))
+    by_file : (o : Option (List ℕ)) → MatchOption o (◌≡◌ {A = List ℕ} [] [])
+        (λ log. ◌≡◌ {A = List ℕ} [] (take 0 (drop r.at log)))
     by_file None = refl
     by_file (Some log) = refl
 
@@ -240,13 +245,13 @@ module _ {S K : Type 0} (held : S → Option Files) (reads : S → ℕ) (took : 
     pub plays_stopped : (shelf_old shelf_new : S) (sink_old sink_new : K) (name page next : List ℕ) (stop : Stop)
         (result : Result (End H) Stop) → IsErrAnd result (λ s. s ≡ stop)
         → Stopped held reads took writes shelf_old shelf_new sink_old sink_new name
-          (λ text. page ++ text_to_come (built_from host) (coming rule (built_from host) text 0 1 (speaker host))) stop
+        (λ text. page ++ text_to_come (built_from host) (coming rule (built_from host) text 0 1 (speaker host))) stop
         → PlaysLines rule built_from speaker host held reads took writes shelf_old shelf_new sink_old sink_new name page
-          next result
+        next result
     plays_stopped shelf_old shelf_new sink_old sink_new name page next stop (Ok end) wrong s = absurd wrong
     plays_stopped shelf_old shelf_new sink_old sink_new name page next stop (Err other) same s =
         subst (λ (x : Stop). Stopped held reads took writes shelf_old shelf_new sink_old sink_new name
-            (λ text. page ++ text_to_come (built_from host) (coming rule (built_from host) text 0 1 (speaker host))) x)
+        (λ text. page ++ text_to_come (built_from host) (coming rule (built_from host) text 0 1 (speaker host))) x)
         (sym same) s
 
   -- the same of another name for the text
@@ -278,14 +283,17 @@ module _ {S K : Type 0} (held : S → Option Files) (reads : S → ℕ) (took : 
       where
         by : (o : Option (List ℕ)) → file_named files name ≡ o
             → TookFront (took sink_old) (took sink_new) (replay_of rule setup o).text
-        by None e =
-            (0, missing (subst (λ (h : Option Files). IsMissing h name) (sym is) (none_is (file_named files name) e))
-            ∙ with_text-nil (took sink_old))
+        by None e = (
+          0,
+          missing (subst (λ (h : Option Files). IsMissing h name) (sym is) (none_is (file_named files name) e))
+              ∙ with_text-nil (took sink_old),
+        )
         by (Some text) e = front text (ap (λ (h : Option Files). told_file h name) is ∙ e)
 
     -- a replay was stopped
     stopped_exact : (stop : Stop)
-        → Stopped held reads took writes shelf_old shelf_new sink_old sink_new name (λ text. report rule setup text) stop
+        → Stopped held reads took writes shelf_old shelf_new sink_old sink_new name (λ text. report rule setup text)
+        stop
         → (files : Files) → held shelf_old ≡ Some files → ¬ FaultsRose (reads shelf_old) (reads shelf_new)
         → ¬ FaultsRose (writes sink_old) (writes sink_new) → played_by_stop stop ≢ OutOfMemory
         → IsReplayed (replayed rule setup name files) (took sink_old) (took sink_new) (played_by_stop stop)
@@ -302,16 +310,18 @@ module _ {S K : Type 0} (held : S → Option Files) (reads : S → ℕ) (took : 
         by (Some text) none = absurd (cc none)
 
     stopped_quiet : (stop : Stop)
-        → Stopped held reads took writes shelf_old shelf_new sink_old sink_new name (λ text. report rule setup text) stop
+        → Stopped held reads took writes shelf_old shelf_new sink_old sink_new name (λ text. report rule setup text)
+        stop
         → played_by_stop stop ≢ WriteFault → played_by_stop stop ≢ OutOfMemory → writes sink_new ≡ writes sink_old
     stopped_quiet stops.ReadFault s a b = s.quiet_sink refl
     stopped_quiet stops.WriteFault s a b = absurd (a refl)
     stopped_quiet stops.OutOfMemory s a b = absurd (b refl)
 
     stopped_plays : (stop : Stop)
-        → Stopped held reads took writes shelf_old shelf_new sink_old sink_new name (λ text. report rule setup text) stop
+        → Stopped held reads took writes shelf_old shelf_new sink_old sink_new name (λ text. report rule setup text)
+        stop
         → Plays held reads took writes shelf_old shelf_new sink_old sink_new name (replayed rule setup name)
-          (played_by_stop stop)
+        (played_by_stop stop)
     stopped_plays stop s =
         record {
           exact = stopped_exact stop s;
@@ -327,13 +337,14 @@ module _ {S K : Type 0} (held : S → Option Files) (reads : S → ℕ) (took : 
 
     -- a call that hands a stop on by `?` ends as that says
     pub plays_stop : (stop : Stop) (result : Result Played Stop) → IsErrAnd result (λ s. s ≡ stop)
-        → Stopped held reads took writes shelf_old shelf_new sink_old sink_new name (λ text. report rule setup text) stop
+        → Stopped held reads took writes shelf_old shelf_new sink_old sink_new name (λ text. report rule setup text)
+        stop
         → Plays held reads took writes shelf_old shelf_new sink_old sink_new name (replayed rule setup name)
-          (played_of result)
+        (played_of result)
     plays_stop stop (Ok played) wrong s = absurd wrong
     plays_stop stop (Err other) same s =
         subst (λ (x : Stop). Plays held reads took writes shelf_old shelf_new sink_old sink_new name
-            (replayed rule setup name) (played_by_stop x))
+        (replayed rule setup name) (played_by_stop x))
         (sym same) (stopped_plays stop s)
 
     -- the whole report of a log that is held was written
@@ -348,8 +359,11 @@ module _ {S K : Type 0} (held : S → Option Files) (reads : S → ℕ) (took : 
         record {
           exact = λ files has a b memory. exact files has (file_named files name) refl;
           front = λ files has. front_of files has
-              (λ text e. (length (report rule setup text), (written text e).1
-              ∙ ap (with_text (took sink_old)) (sym (take-length (report rule setup text)))))
+              (λ text e. (
+                length (report rule setup text),
+                (written text e).1
+                    ∙ ap (with_text (took sink_old)) (sym (take-length (report rule setup text))),
+              ))
               (λ m. absurd (is_held m));
           read_cause = λ e. absurd (no_fault ending ReadFault (inl refl) (sym is ∙ e));
           write_cause = λ e. absurd (no_fault ending WriteFault (inr refl) (sym is ∙ e));
@@ -363,7 +377,8 @@ module _ {S K : Type 0} (held : S → Option Files) (reads : S → ℕ) (took : 
         exact : (files : Files) → held shelf_old ≡ Some files → (o : Option (List ℕ)) → file_named files name ≡ o
             → IsReplayed (replay_of rule setup o) (took sink_old) (took sink_new) played
         exact files has None e =
-            absurd (is_held (subst (λ (h : Option Files). IsMissing h name) (sym has) (none_is (file_named files name) e)))
+            absurd (is_held (subst (λ (h : Option Files). IsMissing h name) (sym has)
+            (none_is (file_named files name) e)))
         exact files has (Some text) e =
             let w = written text (ap (λ (h : Option Files). told_file h name) has ∙ e) in
             (is ∙ ap played_by (sym w.0), λ other. w.1)
@@ -408,8 +423,9 @@ end_names built_from setup names peers ends.LongLog p q is = tt
 module _ {H S K : Type 0} (rule : Packing) (built_from : H → Setup) (speaker : H → Speaker) (host : H)
     (held : S → Option Files) (reads : S → ℕ) (took : K → Option (List ℕ)) (writes : K → ℕ) (end : End H)
     (shelf_old shelf_new : S) (sink_old sink_mid : K) (name page mid : List ℕ)
-    (ended : Ended rule built_from speaker host held reads took writes shelf_old shelf_new sink_old sink_mid name page mid
-      end) where
+    (ended : Ended rule built_from speaker host held reads took writes shelf_old shelf_new sink_old sink_mid name page
+    mid
+    end) where
   abbrev whole_of : List ℕ → List ℕ
   whole_of text = text_to_come (built_from host) (coming rule (built_from host) text 0 1 (speaker host))
 
@@ -417,7 +433,7 @@ module _ {H S K : Type 0} (rule : Packing) (built_from : H → Setup) (speaker :
   pub stopped_end : (sink_new : K) (halt : Halt)
       → Stops took writes sink_mid sink_new (mid ++ end_text built_from speaker end) halt
       → Stopped held reads took writes shelf_old shelf_new sink_old sink_new name (λ text. page ++ whole_of text)
-        (stop_of halt)
+      (stop_of halt)
   stopped_end sink_new halt s =
       let last = end_text built_from speaker end in
       stopped_halt held reads took writes shelf_old shelf_new sink_old sink_mid sink_new name
@@ -441,7 +457,7 @@ module _ {H S K : Type 0} (rule : Packing) (built_from : H → Setup) (speaker :
     -- the page was not written to its end
     pub stopped_put : (halt : Halt) → Stops took writes sink_late sink_new late halt
         → Stopped held reads took writes shelf_old shelf_new sink_old sink_new name (λ text. page ++ whole_of text)
-          (stop_of halt)
+        (stop_of halt)
     stopped_put halt s =
         stopped_halt held reads took writes shelf_old shelf_new sink_old sink_late sink_new name
         (λ text. page ++ whole_of text) late halt

@@ -1,5 +1,6 @@
 -- Walks over the tables of a speaker, a line for each entry.
-use Rattle.std.proofs.Common.{◌≡◌, ℕ, zero, suc, ◌+◌, ◌-◌, ◌<◌, ◌≤◌, List, [], ◌∷◌, ◌++◌, length, take, drop, map, flat_map, Option, Some, None, refl, sym, ◌∙◌, ap, subst, arith, add-one, drop-cons}
+use Rattle.std.proofs.Common.{◌≡◌, ℕ, zero, suc, ◌+◌, ◌-◌, ◌<◌, ◌≤◌, List, [], ◌∷◌, ◌++◌, length, take, drop, map}
+use Rattle.std.proofs.Common.{flat_map, Option, Some, None, refl, sym, ◌∙◌, ap, arith, add-one, drop-cons}
 use Rattle.std.specs.Prelude.{zip}
 use Rattle.std.specs.Option.{option_map, option_and_then}
 use Rattle.std.specs.Ordering.{nat_cmp}
@@ -7,7 +8,7 @@ use Rattle.std.specs.Cmp.{IsTotalOrder}
 use Rattle.std.specs.declared.cmp.Ordering.{Ordering}
 use Rattle.std.specs.List.{slice_get, range_with_len}
 use Rattle.std.proofs.lemmas.List.{drop_all, length-map, map_push, map_more}
-use Rattle.std.proofs.lemmas.Cmp.{nat_cmp_total, then_total, nat_list_cmp_total}
+use Rattle.std.proofs.lemmas.Cmp.{nat_cmp_total, then_total}
 use Rattle.std.proofs.lemmas.Option.{slice_get_within, get_or_from_slice_get, slice_get-map}
 use Rattle.xb_words.specs.Table.{entry_after, entries_after, IsRising}
 use Rattle.xb_words.proofs.TableLemmas.{entries_after-some, entries_after-none}
@@ -22,7 +23,8 @@ use Rattle.table_print.specs.Lines.{adv_line, route_line}
 use Rattle.spk_model.specs.Routing.{Chosen}
 use Rattle.spk_model.specs.Turning.{Speaker}
 use Rattle.spk_model.specs.Readers.{showing, entries_in, map_entries, map_entry_after}
-use Rattle.spk_model.specs.Reports.{adv_line_of, entry_lines, lines_of_map, numbered_fault_lines, program_fault_lines, route_line_of}
+use Rattle.spk_model.specs.Reports.{adv_line_of, entry_lines, lines_of_map, numbered_fault_lines, program_fault_lines}
+use Rattle.spk_model.specs.Reports.{route_line_of}
 
 -- ---- a walk by keys
 
@@ -64,7 +66,8 @@ module _ {K X : Type 0} (c : K → K → Ordering) (o : IsTotalOrder c) (f : K �
   fewer_after es after e rising is = rw (entries_after-some c o es after e rising is) (omega arith)
 
 -- what an optional value is of which a part is known
-pub found : {E Y : Type 0} (g : E → Y) (o : Option E) (y : Y) → option_map g o ≡ Some y → (e : E) × (o ≡ Some e) × (g e ≡ y)
+pub found : {E Y : Type 0} (g : E → Y) (o : Option E) (y : Y) → option_map g o ≡ Some y → (e : E) × (o ≡ Some e) ×
+    (g e ≡ y)
 found g None y e = absurd (cc e)
 found g (Some x) y e = (x, refl, cc e)
 
@@ -76,7 +79,8 @@ not_found g (Some x) e = absurd (cc e)
 
 -- the element at an index, before those after it
 pub drop_at : {A : Type 0} (xs : List A) (i : ℕ) (x : A) → slice_get xs i ≡ Some x → drop i xs ≡ x ∷ drop (i + 1) xs
-drop_at xs i x h = rw add-one (drop-cons xs i x (slice_get_within xs i x h) ∙ ap (λ y. y ∷ drop (suc i) xs) (get_or_from_slice_get xs i x x h))
+drop_at xs i x h = rw add-one (drop-cons xs i x (slice_get_within xs i x h) ∙ ap (λ y. y ∷ drop (suc i) xs)
+    (get_or_from_slice_get xs i x x h))
 
 -- the lines from an index on
 pub lines_at : {A : Type 0} (f : A → List ℕ) (xs : List A) (i : ℕ) (x : A) → slice_get xs i ≡ Some x

@@ -1,18 +1,14 @@
 -- How long the lines of a report are, and lines that are written in a buffer with room for them.
-use Rattle.std.proofs.Common.{◌≡◌, ℕ, ◌+◌, ◌*◌, ◌<◌, ◌≤◌, ◌^◌, List, [], ◌∷◌, ◌++◌, length, Bool, IsTrue, refl, sym, ◌∙◌, ap, subst, arith, length-append, append_assoc}
+use Rattle.std.proofs.Common.{◌≡◌, ℕ, ◌+◌, ◌*◌, ◌<◌, ◌≤◌, ◌^◌, List, [], ◌∷◌, ◌++◌, length, Bool, ◌∙◌, ap, arith}
+use Rattle.std.proofs.Common.{length-append}
 use Rattle.std.specs.Prelude.{decimal}
 use Rattle.xb_values.specs.Buffers.{Buffer, Appends}
 use Rattle.xb_values.specs.Prefixes.{Prefix, IsPrefix}
-use Rattle.xb_values.specs.Texts.{line, hex_text, prefix_text}
+use Rattle.xb_values.specs.Texts.{line}
 use Rattle.xb_values.proofs.BufferLemmas.{Appends-fits}
 use Rattle.xb_values.proofs.TextLemmas.{decimal_length, hex_text_length, prefix_text_length}
-use Rattle.xb_domain.specs.declared.point.Point.{Point}
-use Rattle.xb_domain.specs.declared.point.Point.TheVariants.{Receive, Inbound, Decision, Outbound, Encode}
 use Rattle.xb_domain.specs.Outputs.{Output, came_up, went_down, sent}
-use Rattle.bpf_machine.specs.declared.world.Cause.{Cause}
-use Rattle.bpf_machine.specs.declared.world.Cause.TheVariants.{Memory, Fuel, Misuse, BadReturn, BadOutput}
-use Rattle.table_print.specs.Words.{point_word, cause_word}
-use Rattle.table_print.specs.Lines.{output_line, route_line, adv_line, drained_line, map_line, fault_line}
+use Rattle.table_print.specs.Lines.{output_line, route_line, adv_line, drained_line, map_line}
 use Rattle.spk_model.specs.Ends.{peer_number, sent_octets}
 
 line_of_two : (a b : List ℕ) → length (line (a ∷ b ∷ [])) ≡ length a + length b + 2

@@ -19,7 +19,7 @@ use Rattle.spk_model.specs.Turning.{Speaker, Happened, event}
 use Rattle.spk_model.specs.Readers.{AreConfigured}
 use Rattle.spk_model.specs.Reports.{output_lines, ending_text, bad_log_line, long_log_line}
 use Rattle.spk_model.specs.Names.{Named, names_of}
-use Rattle.spk_model.specs.Playing.{played_by, coming, text_to_come}
+use Rattle.spk_model.specs.Playing.{coming, text_to_come}
 
 -- how many octets an output sends
 abbrev pub sent_octets : Output → ℕ
@@ -94,13 +94,13 @@ pub record TookLine {H K : Type 0} (rule : Packing) (built_from : H → Setup) (
       (page ++ output_lines (line_happens rule (built_from old_host) (speaker old_host) said).outputs) next []
 
 -- the same, or that ended early
-abbrev pub PlaysLine : {H K : Type 0} → Packing → (H → Setup) → (H → Speaker) → H → Line → (K → Option (List ℕ)) → (K → ℕ)
-    → K → K → List ℕ → List ℕ → Result H Halt → Type 0
+abbrev pub PlaysLine : {H K : Type 0} → Packing → (H → Setup) → (H → Speaker) → H → Line → (K → Option (List ℕ))
+    → (K → ℕ) → K → K → List ℕ → List ℕ → Result H Halt → Type 0
 PlaysLine rule built_from speaker host said took faults old new page next (Ok h) =
     TookLine rule built_from speaker host said took faults old new page next h
 PlaysLine rule built_from speaker host said took faults old new page next (Err halt) =
     Stops took faults old new
-      (page ++ output_lines (line_happens rule (built_from host) (speaker host) said).outputs) halt
+    (page ++ output_lines (line_happens rule (built_from host) (speaker host) said).outputs) halt
 
 -- the log was read as far as it is in the grammar, and what follows the outputs is still to come
 pub record Ended {H S K : Type 0} (rule : Packing) (built_from : H → Setup) (speaker : H → Speaker) (host : H)
@@ -108,8 +108,8 @@ pub record Ended {H S K : Type 0} (rule : Packing) (built_from : H → Setup) (s
     (shelf_old shelf_new : S) (sink_old sink_new : K) (name page next : List ℕ) (end : End H) : Type 0 where
   pub gathered : (text : List ℕ) → told_file (held shelf_old) name ≡ Some text
       → Gathered took writes sink_old sink_new
-        (page ++ text_to_come (built_from host) (coming rule (built_from host) text 0 1 (speaker host))) next
-        (end_text built_from speaker end)
+      (page ++ text_to_come (built_from host) (coming rule (built_from host) text 0 1 (speaker host))) next
+      (end_text built_from speaker end)
   pub ending : (text : List ℕ) → told_file (held shelf_old) name ≡ Some text
       → (coming rule (built_from host) text 0 1 (speaker host)).ending ≡ ending_of end
   pub is_held : ¬ IsMissing (held shelf_old) name
@@ -119,7 +119,8 @@ pub record Ended {H S K : Type 0} (rule : Packing) (built_from : H → Setup) (s
   pub same : held shelf_new ≡ held shelf_old
 
 -- the replay ended before its report
-pub record Stopped {S K : Type 0} (held : S → Option Files) (reads : S → ℕ) (took : K → Option (List ℕ)) (writes : K → ℕ)
+pub record Stopped {S K : Type 0} (held : S → Option Files) (reads : S → ℕ) (took : K → Option (List ℕ))
+    (writes : K → ℕ)
     (shelf_old shelf_new : S) (sink_old sink_new : K) (name : List ℕ) (whole : List ℕ → List ℕ) (stop : Stop)
     : Type 0 where
   pub front : (text : List ℕ) → told_file (held shelf_old) name ≡ Some text
@@ -137,8 +138,10 @@ pub record Stopped {S K : Type 0} (held : S → Option Files) (reads : S → ℕ
 -- the lines of a log were played, or that ended early
 abbrev pub PlaysLines : {H S K : Type 0} → Packing → (H → Setup) → (H → Speaker) → H → (S → Option Files) → (S → ℕ)
     → (K → Option (List ℕ)) → (K → ℕ) → S → S → K → K → List ℕ → List ℕ → List ℕ → Result (End H) Stop → Type 0
-PlaysLines rule built_from speaker host held reads took writes shelf_old shelf_new sink_old sink_new name page next (Ok end) =
+PlaysLines rule built_from speaker host held reads took writes shelf_old shelf_new sink_old sink_new name page next
+    (Ok end) =
     Ended rule built_from speaker host held reads took writes shelf_old shelf_new sink_old sink_new name page next end
-PlaysLines rule built_from speaker host held reads took writes shelf_old shelf_new sink_old sink_new name page next (Err stop) =
+PlaysLines rule built_from speaker host held reads took writes shelf_old shelf_new sink_old sink_new name page next
+    (Err stop) =
     Stopped held reads took writes shelf_old shelf_new sink_old sink_new name
-      (λ text. page ++ text_to_come (built_from host) (coming rule (built_from host) text 0 1 (speaker host))) stop
+    (λ text. page ++ text_to_come (built_from host) (coming rule (built_from host) text 0 1 (speaker host))) stop

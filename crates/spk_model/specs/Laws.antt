@@ -129,7 +129,8 @@ untold t = record t { told = [] }
 abbrev pub without_telling : Speaker → Speaker
 without_telling s = record s {
   rests = map (λ _. []) s.rests;
-  routing = record s.routing { tables = map untold (s.routing).tables } }
+  routing = record s.routing { tables = map untold (s.routing).tables };
+}
 
 -- octets left for a peer
 abbrev pub is_sent : Output → Bool
@@ -160,11 +161,11 @@ abbrev pub Refuses : Setup → Speaker → ℕ → List ℕ → Notification →
 Refuses setup s p bytes n =
     (is_live (state_in s p) ≡ true)
     × ((front_fault bytes ≡ Some n)
-      ⊎ ((size : ℕ) × (message_size bytes ≡ Some size)
-        × (((message_kind bytes ≡ OPEN) × (state_in s p ≡ OpenSent)
-            × (judge_open4 (message_body (take size bytes)) (entry_of setup.config p).asn ≡ Some n))
-          ⊎ ((message_kind bytes ≡ UPDATE) × (state_in s p ≡ Established)
-            × (judge (width_of (is_wide s.sessions p)) (message_body (take size bytes)) ≡ Some n)))))
+    ⊎ ((size : ℕ) × (message_size bytes ≡ Some size)
+    × (((message_kind bytes ≡ OPEN) × (state_in s p ≡ OpenSent)
+    × (judge_open4 (message_body (take size bytes)) (entry_of setup.config p).asn ≡ Some n))
+    ⊎ ((message_kind bytes ≡ UPDATE) × (state_in s p ≡ Established)
+    × (judge (width_of (is_wide s.sessions p)) (message_body (take size bytes)) ≡ Some n)))))
 
 -- the event of some octets, if there are any
 abbrev pub octets_event : ℕ → List ℕ → List Event
@@ -186,7 +187,7 @@ damage = (rule : Packing) (setup : Setup) (s : Speaker) (p : ℕ) (x y : List �
     ((x ≡ []) ⊎ (wait_in first.speaker p ≡ []))
     → Refuses setup first.speaker p (wait_in first.speaker p ++ y) n
     → (run.speaker ≡ lost.speaker)
-      × (run.outputs ≡ first.outputs ++ put p (rest_in first.speaker p) ++ put p (notice_of n) ++ lost.outputs)
+    × (run.outputs ≡ first.outputs ++ put p (rest_in first.speaker p) ++ put p (notice_of n) ++ lost.outputs)
 
 -- ---- one peer's event
 

@@ -1,6 +1,5 @@
 -- What the readers of a host say, and which events a host takes (this project's own).
-use Rattle.std.specs.Prelude.{◌≡◌, ◌≤◌, ℕ, Bool, List, [], length, Option, Some, None}
-use Rattle.std.specs.List.{slice_get}
+use Rattle.std.specs.Prelude.{◌≤◌, ℕ, Bool, List, [], length, Option, Some, None}
 use Rattle.xb_words.specs.Table.{entry_after, has_key}
 use Rattle.xb_domain.specs.Events.{Event}
 use Rattle.replay_log.specs.Lines.{IsFor}

@@ -33,8 +33,9 @@ impl Model for Names {
     ghost Value = { Named };
 
     ghost view = { λ n. record {
-        maps = map string_bytes n.maps.items;
-        programs = map program_view n.programs.items } };
+      maps = map string_bytes n.maps.items;
+      programs = map program_view n.programs.items;
+    } };
 
     ghost invariant = { λ n. (length n.maps.items ≤ MAX_MAPS) × (length n.programs.items ≤ MAX_PROGRAMS) };
 }
@@ -51,10 +52,7 @@ fn map_names(alloc: Global, maps: &MapEntries) -> Result<Vec<String>, AllocError
 }
 
 // The names of programs, each with its point.
-fn program_names(
-    alloc: Global,
-    programs: &ProgramEntries,
-) -> Result<Vec<ProgramName>, AllocError>
+fn program_names(alloc: Global, programs: &ProgramEntries) -> Result<Vec<ProgramName>, AllocError>
     ensures { IfOk result (λ names. map program_view names.items ≡ program_names_of programs.now) }
 {
     let mut names = Vec::new(alloc);

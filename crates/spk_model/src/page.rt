@@ -179,11 +179,7 @@ impl Page {
     }
 
     /// Gathers the line of an output.
-    pub(crate) fn output<K: Sink>(
-        &mut self,
-        item: Output<'_>,
-        sink: &mut K,
-    ) -> Result<(), Halt>
+    pub(crate) fn output<K: Sink>(&mut self, item: Output<'_>, sink: &mut K) -> Result<(), Halt>
         ensures { let line = output_line (output_view item.entry) in
             Gathers K.took K.faults sink.old sink.new self.old self.new line result }
     {

@@ -6,7 +6,8 @@ ghost use Rattle.table_print.specs.Lines.{adv_line, map_line};
 ghost use Rattle.spk_model.specs.Names.{names_of};
 ghost use Rattle.spk_model.specs.Readers.{IsPeer, map_entries};
 ghost use Rattle.spk_model.specs.Reports.{route_lines, adv_lines, drained_lines, map_lines, fault_lines, table_lines};
-ghost use Rattle.spk_model.specs.Reports.{adv_lines_of, drained_line_of, entry_lines, fault_line_of, program_fault_lines};
+ghost use Rattle.spk_model.specs.Reports.{adv_lines_of, drained_line_of, entry_lines, fault_line_of};
+ghost use Rattle.spk_model.specs.Reports.{program_fault_lines};
 ghost use Rattle.spk_model.specs.Ends.{IsEnd, end_text};
 
 use crate::Host;

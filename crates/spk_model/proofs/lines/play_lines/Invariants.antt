@@ -1,4 +1,4 @@
-use Rattle.std.proofs.Common.{◌≡◌, ◌≤◌, ◌+◌, ◌-◌, ◌++◌, ℕ, List, length, Some}
+use Rattle.std.proofs.Common.{◌≡◌, ◌≤◌, ◌+◌, ◌-◌, ◌++◌, ℕ, List, Some}
 use Rattle.xb_io.specs.Causes.{told_file, IsMissing}
 use Rattle.xb_io.specs.Pages.{Gathered}
 use Rattle.replay_log.specs.declared.limits.TheConstants.{LOG_LIMIT, OCTETS_LIMIT}
@@ -24,8 +24,8 @@ invariant-lines g l =
       same : g.S.Shelf.held l.shelf ≡ held;
       gathered : (text : List ℕ) → told_file held l.log ≡ Some text
           → Gathered g.K.Sink.took g.K.Sink.faults l.fn.sink l.sink
-            (l.fn.page ++ text_to_come setup (coming rule setup text 0 1 start)) l.page
-            (text_to_come setup (coming rule setup text l.reader.at l.number here));
+          (l.fn.page ++ text_to_come setup (coming rule setup text 0 1 start)) l.page
+          (text_to_come setup (coming rule setup text l.reader.at l.number here));
       ending : (text : List ℕ) → told_file held l.log ≡ Some text
           → (coming rule setup text l.reader.at l.number here).ending ≡ (coming rule setup text 0 1 start).ending;
       missing : IsMissing held l.log → g.K.Sink.took l.sink ≡ g.K.Sink.took l.fn.sink;

@@ -1,4 +1,4 @@
-use Rattle.std.proofs.Common.{◌≡◌, ◌+◌, ◌*◌, length}
+use Rattle.std.proofs.Common.{◌+◌, ◌*◌}
 use Rattle.spk_model.proofs.TextLemmas.{drained_length, written}
 use Rattle.spk_model.proofs.page.write_drained.Goals as goal
 

@@ -1,4 +1,4 @@
-use Rattle.std.proofs.Common.{◌≡◌, ◌+◌, ◌*◌, ◌≤◌, length, subst, sym, ℕ}
+use Rattle.std.proofs.Common.{◌+◌, ◌*◌, ◌≤◌, length, subst, sym, ℕ}
 use Rattle.xb_domain.specs.Views.{output_view}
 use Rattle.table_print.specs.Lines.{output_line}
 use Rattle.spk_model.proofs.TextLemmas.{output_length, written}

@@ -1,4 +1,4 @@
-use Rattle.std.proofs.Common.{◌≡◌, ◌++◌, ◌≤◌, length, flat_map}
+use Rattle.std.proofs.Common.{◌≡◌, ◌++◌, length, flat_map}
 use Rattle.xb_words.specs.Table.{entries_after}
 use Rattle.xb_values.specs.Prefixes.{prefix_cmp}
 use Rattle.xb_io.specs.Pages.{Gathered}

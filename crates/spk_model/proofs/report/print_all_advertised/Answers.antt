@@ -10,8 +10,10 @@ pub returns-in_err-print_advertised : goal.returns-in_err-print_advertised
 returns-in_err-print_advertised g c =
     let s = g.H.Host.speaker c.args.host.now in
     let f = adv_lines_of s in
-    gathers_no_line g.K.Sink.took g.K.Sink.faults _ _ _ c.args.page.now (adv_lines (g.H.Host.built_from c.args.host.now) s) _
-    c.print_advertised.new.page (f (c.peers.i + 1)) (flat_map f (range_with_len (c.peers.i + 1) (c.args.peers - c.peers.i)))
+    gathers_no_line g.K.Sink.took g.K.Sink.faults _ _ _ c.args.page.now
+    (adv_lines (g.H.Host.built_from c.args.host.now) s) _
+    c.print_advertised.new.page (f (c.peers.i + 1)) (flat_map f
+    (range_with_len (c.peers.i + 1) (c.args.peers - c.peers.i)))
     (flat_map f (range_with_len (c.peers.i + 1 + 1) (c.args.peers - (c.peers.i + 1))))
     c.in_err-print_advertised.field-0.0 c.from_residual-in_err-print_advertised.result
     (lines_of_peers f c.peers.i c.args.peers c.peers-test.true)

@@ -9,10 +9,13 @@ pub returns-in_err-print_drained_peer : goal.returns-in_err-print_drained_peer
 returns-in_err-print_drained_peer g c =
     let s = g.H.Host.speaker c.args.host.now in
     let f = drained_line_of s in
-    gathers_no_line g.K.Sink.took g.K.Sink.faults _ _ _ c.args.page.now (drained_lines (g.H.Host.built_from c.args.host.now) s) _
-    c.print_drained_peer.new.page (f (c.peers.i + 1)) (flat_map f (range_with_len (c.peers.i + 1) (c.args.peers - c.peers.i)))
+    gathers_no_line g.K.Sink.took g.K.Sink.faults _ _ _ c.args.page.now
+    (drained_lines (g.H.Host.built_from c.args.host.now) s) _
+    c.print_drained_peer.new.page (f (c.peers.i + 1)) (flat_map f
+    (range_with_len (c.peers.i + 1) (c.args.peers - c.peers.i)))
     (flat_map f (range_with_len (c.peers.i + 1 + 1) (c.args.peers - (c.peers.i + 1))))
-    c.in_err-print_drained_peer.field-0.0 c.from_residual.result (lines_of_peers f c.peers.i c.args.peers c.peers-test.true)
+    c.in_err-print_drained_peer.field-0.0 c.from_residual.result
+    (lines_of_peers f c.peers.i c.args.peers c.peers-test.true)
     c.from_residual.ensures.1 c.peers.invariant c.in_err-print_drained_peer.ensures
 
 pub peers-preserved : goal.peers-preserved

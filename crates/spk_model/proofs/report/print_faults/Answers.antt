@@ -1,4 +1,4 @@
-use Rattle.std.proofs.Common.{◌≤◌, length, subst, ◌≡◌, ◌∙◌, ◌+◌, ◌++◌, ℕ, List, Some, ap, sym, drop, flat_map, arith}
+use Rattle.std.proofs.Common.{◌≤◌, length, subst, ◌∙◌, ◌+◌, ◌++◌, ℕ, List, ap, sym, drop, flat_map, arith}
 use Rattle.std.specs.List.{slice_get}
 use Rattle.xb_domain.specs.declared.point.Point.{Point}
 use Rattle.xbgp_manifest.specs.declared.entries.ProgramEntry.{ProgramEntry}
@@ -21,8 +21,10 @@ returns-in_err-print_program_faults g c =
     let rest = flat_map (numbered_fault_lines s) (drop (i + 1) (numbered 0 manifest.programs)) in
     let program = made_at (λ p. (p.name, p.point)) manifest.programs i named
     (ap (λ (n : Named). slice_get n.programs i) (sym c.requires) ∙ c.program-point.ensures) in
-    gathers_no_line g.K.Sink.took g.K.Sink.faults _ _ _ c.args.page.now (fault_lines manifest s) _ c.print_program_faults.new.page
-    (program_fault_lines s i named.0 named.1) (flat_map (numbered_fault_lines s) (drop i (numbered 0 manifest.programs))) rest
+    gathers_no_line g.K.Sink.took g.K.Sink.faults _ _ _ c.args.page.now (fault_lines manifest s) _
+    c.print_program_faults.new.page
+    (program_fault_lines s i named.0 named.1) (flat_map (numbered_fault_lines s)
+    (drop i (numbered 0 manifest.programs))) rest
     c.in_err-print_program_faults.field-0.0 c.from_residual.result
     (lines_of_programs s manifest.programs i program.0 program.1
     ∙ ap (λ (n : List ℕ × Point). program_fault_lines s i n.0 n.1 ++ rest) program.2)
@@ -48,7 +50,8 @@ returns g c =
     let s = g.H.Host.speaker c.args.host.now in
     let manifest = (g.H.Host.built_from c.args.host.now).manifest in
     let pair : ProgramEntry → List ℕ × Point = λ p. (p.name, p.point) in
-    gathered_all g.K.Sink.took g.K.Sink.faults _ _ _ _ (flat_map (numbered_fault_lines s) (drop c.programs.i (numbered 0 manifest.programs)))
+    gathered_all g.K.Sink.took g.K.Sink.faults _ _ _ _ (flat_map (numbered_fault_lines s)
+    (drop c.programs.i (numbered 0 manifest.programs)))
     (lines_of_no_programs s manifest.programs c.programs.i
     (past_all pair manifest.programs c.programs.i
     (subst (λ (n : Named). length n.programs ≤ c.programs.i) c.requires

@@ -17,7 +17,8 @@ returns-in_err-print_fault g c =
     gathers_no_line g.K.Sink.took g.K.Sink.faults _ _ _ c.args.page.now (flat_map f all_causes) _ c.print_fault.new.page
     _ (flat_map f (drop c.causes.cause-index all_causes)) (flat_map f (drop (c.causes.cause-index + 1) all_causes))
     c.in_err-print_fault.field-0.0 c.from_residual.result
-    (lines_at f all_causes c.causes.cause-index _ (slice_get-get_or all_causes c.causes.cause-index _ c.causes-test.true))
+    (lines_at f all_causes c.causes.cause-index _ (slice_get-get_or all_causes c.causes.cause-index _
+    c.causes-test.true))
     c.from_residual.ensures.1 c.causes.invariant c.in_err-print_fault.ensures
 
 pub causes-preserved : goal.causes-preserved
@@ -25,4 +26,5 @@ causes-preserved g c =
     let f = fault_line_of (g.H.Host.speaker c.args.host.now) c.args.program c.args.name.now c.args.point in
     gathered_line g.K.Sink.took g.K.Sink.faults _ _ _ _ _ _ _
     (flat_map f (drop c.causes.cause-index all_causes)) (flat_map f (drop (c.causes.cause-index + 1) all_causes))
-    (lines_at f all_causes c.causes.cause-index _ (slice_get-get_or all_causes c.causes.cause-index _ c.causes-test.true)) c.causes.invariant c.in_ok-print_fault.ensures
+    (lines_at f all_causes c.causes.cause-index _ (slice_get-get_or all_causes c.causes.cause-index _
+    c.causes-test.true)) c.causes.invariant c.in_ok-print_fault.ensures
