@@ -26,13 +26,17 @@ use Rattle.spk_model.specs.Sources.{peer_numbers, is_up, side_of}
 use Rattle.spk_model.specs.Choosing.{Trace, Candidate}
 use Rattle.spk_model.specs.Tournaments.{choose}
 use Rattle.spk_model.specs.Exporting.{Exported, accepted}
-use Rattle.spk_model.specs.Routing.{Routed, Chosen, best_of, at_tables, set_routes, set_adv, set_best, ran_all, candidates, decided}
+use Rattle.spk_model.specs.Routing.{Routed, Chosen, best_of, at_tables, set_routes, set_adv, set_best, ran_all}
+use Rattle.spk_model.specs.Routing.{candidates, decided}
 use Rattle.spk_model.specs.Routing.{set_tables, no_tables}
-use Rattle.spk_model.specs.Routing.{decide, advertise, export_best, export, settle, settle_all, export_all, announce_one}
+use Rattle.spk_model.specs.Routing.{decide, advertise, export_best, export, settle, settle_all, export_all}
+use Rattle.spk_model.specs.Routing.{announce_one}
 use Rattle.spk_model.specs.Routing.{drop_all, receive_route, receive_if, announce, withdraw, routes_of, update, lose}
-use Rattle.spk_model.specs.Turning.{Turn, gives, routed, with_routes, put, rest_of, control, act, react, refuse, session_at}
+use Rattle.spk_model.specs.Turning.{Turn, gives, routed, with_routes, put, rest_of, control, act, react, refuse}
+use Rattle.spk_model.specs.Turning.{session_at}
 use Rattle.spk_model.specs.Turning.{judged_open, open_in, taken_update, judged_update, update_in, message_in, front_in}
-use Rattle.spk_model.specs.Turning.{when_true, take_turns, octets_in, state_of, set_wait, wait_of, set_session, set_rest}
+use Rattle.spk_model.specs.Turning.{when_true, take_turns, octets_in, state_of, set_wait, wait_of, set_session}
+use Rattle.spk_model.specs.Turning.{set_rest}
 
 -- routes after some earlier chain runs
 abbrev pub later : Trace → Routed → Routed
@@ -42,9 +46,11 @@ later earlier t = record t { trace = earlier ++ t.trace }
 abbrev IsLater : (Routed → Routed) → Type 0
 IsLater f = (earlier : Trace) (t : Routed) → f (later earlier t) ≡ later earlier (f t)
 
-fold-later : {A : Type 0} (f : Routed → A → Routed) → ((a : A) → IsLater (λ t. f t a)) → (xs : List A) → IsLater (λ t. fold f t xs)
+fold-later : {A : Type 0} (f : Routed → A → Routed) → ((a : A) → IsLater (λ t. f t a)) → (xs : List A)
+    → IsLater (λ t. fold f t xs)
 fold-later f keeps [] earlier t = refl
-fold-later f keeps (x ∷ xs) earlier t = ap (λ (u : Routed). fold f u xs) (keeps x earlier t) ∙ fold-later f keeps xs earlier (f t x)
+fold-later f keeps (x ∷ xs) earlier t = ap (λ (u : Routed). fold f u xs) (keeps x earlier t)
+    ∙ fold-later f keeps xs earlier (f t x)
 
 if-later : (b : Bool) (f g : Routed → Routed) → IsLater f → IsLater g → IsLater (λ t. if b then f t else g t)
 if-later true f g p q earlier t = p earlier t
@@ -52,7 +58,8 @@ if-later false f g p q earlier t = q earlier t
 
 ran_all-later : (engine : Engine) (runs : Trace) → IsLater (λ t. ran_all t engine runs)
 ran_all-later engine runs earlier t =
-    ap (λ (x : Trace). record { routing = record t.routing { engine = engine }; trace = x }) (append_assoc earlier t.trace runs)
+    ap (λ (x : Trace). record { routing = record t.routing { engine = engine }; trace = x })
+    (append_assoc earlier t.trace runs)
 
 set_adv-later : (p : ℕ) (prefix : Prefix) (section : Option (List ℕ)) → IsLater (λ t. set_adv t p prefix section)
 set_adv-later p prefix None earlier t = refl
@@ -90,7 +97,8 @@ module _ (setup : Setup) (sessions : List Owned) where
       ap (λ (u : Routed). set_adv u p prefix x.section) (ran_all-later x.engine x.trace earlier t)
       ∙ set_adv-later p prefix x.section earlier (ran_all t x.engine x.trace)
 
-  export_best-later : (p : ℕ) (prefix : Prefix) (best : Option Chosen) → IsLater (λ t. export_best setup sessions t p prefix best)
+  export_best-later : (p : ℕ) (prefix : Prefix) (best : Option Chosen)
+      → IsLater (λ t. export_best setup sessions t p prefix best)
   export_best-later p prefix None earlier t = refl
   export_best-later p prefix (Some best) earlier t = advertise-later p prefix _ earlier t
 
@@ -99,14 +107,14 @@ module _ (setup : Setup) (sessions : List Owned) where
   export-later prefix p earlier t =
       let best = value_at prefix_cmp (t.routing).best prefix in
       if-later (is_up sessions p) (λ u. export_best setup sessions u p prefix best) (λ u. u)
-        (λ e u. export_best-later p prefix best e u) (λ e u. refl) earlier t
+      (λ e u. export_best-later p prefix best e u) (λ e u. refl) earlier t
 
   settle-later : (prefix : Prefix) → IsLater (λ t. settle setup sessions t prefix)
   unfolding settle
   settle-later prefix earlier t =
       ap (λ (u : Routed). fold (export setup sessions prefix) u (peer_numbers sessions)) (decide-later prefix earlier t)
       ∙ fold-later (export setup sessions prefix) (export-later prefix) (peer_numbers sessions) earlier
-        (decide setup sessions t prefix)
+      (decide setup sessions t prefix)
 
   settle_all-later : (ps : List Prefix) → IsLater (λ t. settle_all setup sessions t ps)
   unfolding settle_all
@@ -122,7 +130,7 @@ module _ (setup : Setup) (sessions : List Owned) where
   unfolding announce_one
   announce_one-later now route p prefix earlier t =
       let c = inbound setup.manifest (setup.config).local (t.routing).engine now (side_of setup.config sessions p)
-        prefix route in
+      prefix route in
       let enters = accepted c.outcome (accepts_inbound c.route (setup.config).local) in
       let runs = (Inbound, c.outcome) ∷ [] in
       ap (entered enters c p prefix) (ran_all-later c.engine runs earlier t)
@@ -143,7 +151,7 @@ module _ (setup : Setup) (sessions : List Owned) where
   unfolding receive_route
   receive_route-later now p body ps route earlier t =
       let c = receive setup.manifest (setup.config).local (t.routing).engine now (side_of setup.config sessions p)
-        route body in
+      route body in
       let keeps = accepted c.outcome true in
       let runs = (Receive, c.outcome) ∷ [] in
       ap (kept keeps now c.route p ps) (ran_all-later c.engine runs earlier t)
@@ -204,7 +212,7 @@ if-after false f g p q os runs t = q os runs t
 gives-after : (more : List Output) → IsAfter (λ t. gives t more)
 gives-after more os runs t =
     ap (λ (x : List Output). record { speaker = t.speaker; outputs = x; trace = runs ++ t.trace })
-      (append_assoc os t.outputs more)
+    (append_assoc os t.outputs more)
 
 -- outputs, and then a step of the routes
 routes-after : (more : List Output) (f : Routed → Routed) → IsLater f
@@ -227,10 +235,10 @@ module _ (setup : Setup) where
   act-after p extra (acts.SendNotice code subcode) os runs t = control-after p _ os runs t
   act-after p extra acts.Up os runs t =
       routes-after (came_up p ∷ []) (λ r. export_all setup (t.speaker).sessions r p)
-        (export_all-later setup (t.speaker).sessions p) os runs t
+      (export_all-later setup (t.speaker).sessions p) os runs t
   act-after p extra acts.Down os runs t =
       routes-after (went_down p ∷ []) (λ r. lose setup (t.speaker).sessions r p)
-        (lose-later setup (t.speaker).sessions p) os runs t
+      (lose-later setup (t.speaker).sessions p) os runs t
   act-after p extra acts.Close os runs t = refl
 
   react-after : (p : ℕ) (stimulus : Stimulus) (extra : List ℕ) → IsAfter (λ t. react setup t p stimulus extra)
@@ -239,7 +247,7 @@ module _ (setup : Setup) where
       let s = session_at t p in
       let r = row s.own s.session (t.speaker).clock stimulus in
       fold-after (act setup p extra) (act-after p extra) r.acts os runs
-        (set_session t p (record s { session = r.session }))
+      (set_session t p (record s { session = r.session }))
 
   refuse-after : (p : ℕ) (n : Notification) → IsAfter (λ t. refuse setup t p n)
   unfolding refuse
@@ -261,7 +269,7 @@ module _ (setup : Setup) where
   taken_update-after : (p : ℕ) (body : List ℕ) → IsAfter (λ t. taken_update setup t p body)
   taken_update-after p body os runs t =
       ap (with_routes (after os runs t))
-        (update-later setup (t.speaker).sessions (t.speaker).clock p body runs (routed t))
+      (update-later setup (t.speaker).sessions (t.speaker).clock p body runs (routed t))
 
   judged_update-after : (p : ℕ) (body : List ℕ) (fault : Option Notification)
       → IsAfter (λ t. judged_update setup t p body fault)
@@ -285,18 +293,19 @@ module _ (setup : Setup) where
       let body = message_body message in
       let state = state_of t p in
       let others : IsAfter (λ u. if kind == NOTIFICATION then react setup u p stimuli.Notified []
-        else react setup u p stimuli.Keepalive []) =
-        if-after (kind == NOTIFICATION) (λ u. react setup u p stimuli.Notified [])
-          (λ u. react setup u p stimuli.Keepalive []) (react-after p stimuli.Notified []) (react-after p stimuli.Keepalive []) in
+      else react setup u p stimuli.Keepalive []) =
+      if-after (kind == NOTIFICATION) (λ u. react setup u p stimuli.Notified [])
+      (λ u. react setup u p stimuli.Keepalive []) (react-after p stimuli.Notified [])
+      (react-after p stimuli.Keepalive []) in
       let rest : IsAfter (λ u. if kind == UPDATE then update_in setup u p body state
-        else if kind == NOTIFICATION then react setup u p stimuli.Notified [] else react setup u p stimuli.Keepalive []) =
-        if-after (kind == UPDATE) (λ u. update_in setup u p body state)
-          (λ u. if kind == NOTIFICATION then react setup u p stimuli.Notified [] else react setup u p stimuli.Keepalive [])
-          (update_in-after p body state) others in
+      else if kind == NOTIFICATION then react setup u p stimuli.Notified [] else react setup u p stimuli.Keepalive []) =
+      if-after (kind == UPDATE) (λ u. update_in setup u p body state)
+      (λ u. if kind == NOTIFICATION then react setup u p stimuli.Notified [] else react setup u p stimuli.Keepalive [])
+      (update_in-after p body state) others in
       if-after (kind == OPEN) (λ u. open_in setup u p body state)
-        (λ u. if kind == UPDATE then update_in setup u p body state
-          else if kind == NOTIFICATION then react setup u p stimuli.Notified [] else react setup u p stimuli.Keepalive [])
-        (open_in-after p body state) rest os runs t
+      (λ u. if kind == UPDATE then update_in setup u p body state
+      else if kind == NOTIFICATION then react setup u p stimuli.Notified [] else react setup u p stimuli.Keepalive [])
+      (open_in-after p body state) rest os runs t
 
   front_in-after : (rest : Turn → Turn) → IsAfter rest → (p : ℕ) (size : Option ℕ) (fault : Option Notification)
       → IsAfter (λ t. front_in setup rest t p size fault)
@@ -316,9 +325,10 @@ module _ (setup : Setup) where
   take_turns-after zero p os runs t = refl
   take_turns-after (suc turns) p os runs t =
       when_true-after (is_live (state_of t p))
-        (λ u. front_in setup (λ v. take_turns setup turns v p) u p (message_size (wait_of u p)) (front_fault (wait_of u p)))
-        (λ o r u. front_in-after (λ v. take_turns setup turns v p) (take_turns-after turns p) p
-          (message_size (wait_of u p)) (front_fault (wait_of u p)) o r u) os runs t
+      (λ u. front_in setup (λ v. take_turns setup turns v p) u p (message_size (wait_of u p))
+      (front_fault (wait_of u p)))
+      (λ o r u. front_in-after (λ v. take_turns setup turns v p) (take_turns-after turns p) p
+      (message_size (wait_of u p)) (front_fault (wait_of u p)) o r u) os runs t
 
   -- octets that come do what they do at the beginning of an event
   pub octets_in-after : (p : ℕ) (bytes : List ℕ) → IsAfter (λ t. octets_in setup t p bytes)
@@ -326,4 +336,4 @@ module _ (setup : Setup) where
   octets_in-after p bytes os runs t =
       let whole = wait_of t p ++ bytes in
       if-after (is_live (state_of t p)) (λ u. take_turns setup (length whole) (set_wait u p whole) p) (λ u. u)
-        (λ o r u. take_turns-after (length whole) p o r (set_wait u p whole)) (λ o r u. refl) os runs t
+      (λ o r u. take_turns-after (length whole) p o r (set_wait u p whole)) (λ o r u. refl) os runs t

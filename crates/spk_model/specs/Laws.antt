@@ -1,7 +1,7 @@
 -- Laws over all histories (this project's own). Each is a statement; those that a public function has as its contract
 -- are proved.
-use Rattle.std.specs.Prelude.{◌≡◌, ◌≢◌, ◌⊎◌, ◌<◌, ℕ, ◌+◌, ◌^◌, Bool, true, false, not, IsTrue, List, [], ◌∷◌, ◌++◌}
-use Rattle.std.specs.Prelude.{◌-◌, length, map, filter, flat_map, take, Option, Some, None, Ok, ◌==◌, ◌&&◌, ◌||◌}
+use Rattle.std.specs.Prelude.{◌≡◌, ◌≢◌, ◌⊎◌, ◌<◌, ℕ, ◌^◌, Bool, true, false, not, List, [], ◌∷◌, ◌++◌}
+use Rattle.std.specs.Prelude.{◌-◌, length, map, filter, flat_map, take, Option, Some, Ok, ◌==◌, ◌&&◌, ◌||◌}
 use Rattle.std.specs.Prelude.{if◌then◌else◌}
 use Rattle.std.specs.List.{list_any, slice_get, slice_index_or, list_all}
 use Rattle.std.specs.List.Sorted.{IsStrictlySortedBy}
@@ -33,7 +33,7 @@ use Rattle.xbgp_points.specs.Points.{Engine, encode, given_section}
 use Rattle.spk_model.specs.declared.host.Setup.{Setup}
 use Rattle.spk_model.specs.Sources.{entry_of, session_of, is_up, is_wide}
 use Rattle.spk_model.specs.Choosing.{Trace}
-use Rattle.spk_model.specs.Routing.{Tables, Routing, tables_of}
+use Rattle.spk_model.specs.Routing.{Tables, tables_of}
 use Rattle.spk_model.specs.Turning.{Speaker, put, event, trace, history, start_of}
 use Rattle.spk_model.specs.Readers.{AreConfigured, IsPeer}
 
@@ -64,7 +64,8 @@ AreEvents rule setup s (e ∷ es) =
 -- a speaker that some list of events gives
 abbrev pub IsReached : Packing → Setup → Speaker → Type 0
 IsReached rule setup s =
-    (es : List Event) × AreEvents rule setup (start_of setup) es × (s ≡ (history rule setup (start_of setup) es).speaker)
+    (es : List Event) × AreEvents rule setup (start_of setup) es
+    × (s ≡ (history rule setup (start_of setup) es).speaker)
 
 -- the state of a peer's session
 abbrev pub state_in : Speaker → ℕ → State
@@ -148,10 +149,9 @@ rule_free = (setup : Setup) (es : List Event) → IsSetup setup → AreEvents Gr
 
 -- ---- pieces
 
--- octets that come in two pieces do what they do in one
+-- octets that come in two pieces do what they do in one, whatever the speaker is
 abbrev pub cutting : Type 0
-cutting = (rule : Packing) (setup : Setup) (s : Speaker) (p : ℕ) (a b : List ℕ) → IsSetup setup
-    → IsReached rule setup s → IsPeer setup p
+cutting = (rule : Packing) (setup : Setup) (s : Speaker) (p : ℕ) (a b : List ℕ)
     → event rule setup s (octets p (a ++ b)) ≡ history rule setup s (octets p a ∷ octets p b ∷ [])
 
 -- ---- damage
@@ -234,7 +234,8 @@ stilled_program points p = if has_point points p.point then record p { code = ne
 
 abbrev pub stilled : List Point → Setup → Setup
 stilled points setup =
-    record setup { manifest = record setup.manifest { programs = map (stilled_program points) (setup.manifest).programs } }
+    let programs = map (stilled_program points) (setup.manifest).programs in
+    record setup { manifest = record setup.manifest { programs = programs } }
 
 -- the program of a number is at one of some points
 abbrev pub program_at : List Point → Manifest → ℕ → Bool
