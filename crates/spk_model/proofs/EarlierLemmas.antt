@@ -196,10 +196,10 @@ abbrev pub after : List Output → Trace → Turn → Turn
 after os runs t = record { speaker = t.speaker; outputs = os ++ t.outputs; trace = runs ++ t.trace }
 
 -- a step that leaves earlier outputs and chain runs in front
-abbrev IsAfter : (Turn → Turn) → Type 0
+abbrev pub IsAfter : (Turn → Turn) → Type 0
 IsAfter f = (os : List Output) (runs : Trace) (t : Turn) → f (after os runs t) ≡ after os runs (f t)
 
-fold-after : {A : Type 0} (f : Turn → A → Turn) → ((a : A) → IsAfter (λ t. f t a)) → (xs : List A)
+pub fold-after : {A : Type 0} (f : Turn → A → Turn) → ((a : A) → IsAfter (λ t. f t a)) → (xs : List A)
     → IsAfter (λ t. fold f t xs)
 fold-after f keeps [] os runs t = refl
 fold-after f keeps (x ∷ xs) os runs t =
@@ -228,7 +228,7 @@ module _ (setup : Setup) where
       ap (λ (u : Turn). gives (set_rest u p []) (put p piece)) (gives-after (put p (rest_of t p)) os runs t)
       ∙ gives-after (put p piece) os runs _
 
-  act-after : (p : ℕ) (extra : List ℕ) (a : Act) → IsAfter (λ t. act setup p extra t a)
+  pub act-after : (p : ℕ) (extra : List ℕ) (a : Act) → IsAfter (λ t. act setup p extra t a)
   unfolding act
   act-after p extra acts.SendOpen os runs t = control-after p _ os runs t
   act-after p extra acts.SendKeepalive os runs t = control-after p _ os runs t

@@ -14,7 +14,7 @@ use Rattle.spk_model.proofs.HeaderLemmas.{header_fault-append}
 use Rattle.bgp_fsm.specs.Sessions.{is_live}
 use Rattle.spk_model.specs.declared.host.Setup.{Setup}
 use Rattle.spk_model.specs.Choosing.{Trace}
-use Rattle.spk_model.specs.Turning.{Turn, state_of, wait_of, set_wait, message_in, refuse, front_in}
+use Rattle.spk_model.specs.Turning.{Speaker, Turn, state_of, wait_of, set_wait, message_in, refuse, front_in}
 use Rattle.spk_model.specs.Turning.{when_true, take_turns, octets_in, turn, event, history, before}
 use Rattle.spk_model.specs.Laws.{cutting}
 use Rattle.spk_model.proofs.EarlierLemmas.{after, octets_in-after}
@@ -48,7 +48,7 @@ front_fault-append s t f e =
     (header_fault-append s t long ∙ p.1)
 
 -- a whole header
-front_fault_long : (s : List ℕ) (f : Notification) → front_fault s ≡ Some f → 19 ≤ length s
+pub front_fault_long : (s : List ℕ) (f : Notification) → front_fault s ≡ Some f → 19 ≤ length s
 front_fault_long s f e = ltb-false (length s) 19 (fault_parts (nat_lt (length s) 19) (header_fault s) f e).0
 
 -- octets with a fault at the front have no message there
@@ -71,7 +71,7 @@ nil_of (x ∷ w) none = absurd (omega (arith, none))
 
 module _ (setup : Setup) (p : ℕ) where
   -- a session that is not live takes nothing
-  take_turns-dead : (n : ℕ) (t : Turn) → is_live (state_of t p) ≡ false → take_turns setup n t p ≡ t
+  pub take_turns-dead : (n : ℕ) (t : Turn) → is_live (state_of t p) ≡ false → take_turns setup n t p ≡ t
   unfolding take_turns
   take_turns-dead zero t dead = refl
   take_turns-dead (suc n) t dead =
@@ -88,7 +88,7 @@ module _ (setup : Setup) (p : ℕ) where
       (message_size (wait_of u p)) (front_fault (wait_of u p))) t) live
 
   -- a message at the front
-  take_turns-message : (n k : ℕ) (t : Turn) (w : List ℕ) → is_live (state_of t p) ≡ true → wait_of t p ≡ w
+  pub take_turns-message : (n k : ℕ) (t : Turn) (w : List ℕ) → is_live (state_of t p) ≡ true → wait_of t p ≡ w
       → message_size w ≡ Some k
       → take_turns setup (suc n) t p
       ≡ take_turns setup n (message_in setup (set_wait t p (drop k w)) p (take k w)) p
@@ -99,7 +99,7 @@ module _ (setup : Setup) (p : ℕ) where
       ∙ ap (λ (x : List ℕ). take_turns setup n (message_in setup (set_wait t p (drop k x)) p (take k x)) p) is
 
   -- a fault at the front
-  take_turns-fault : (n : ℕ) (t : Turn) (w : List ℕ) (f : Notification) → is_live (state_of t p) ≡ true
+  pub take_turns-fault : (n : ℕ) (t : Turn) (w : List ℕ) (f : Notification) → is_live (state_of t p) ≡ true
       → wait_of t p ≡ w
       → front_fault w ≡ Some f → take_turns setup (suc n) t p ≡ refuse setup t p f
   take_turns-fault n t w f live is fault =
@@ -130,7 +130,7 @@ module _ (setup : Setup) (p : ℕ) where
   octets_in-dead t b dead = ap (λ (c : Bool). if c
       then take_turns setup (length (wait_of t p ++ b)) (set_wait t p (wait_of t p ++ b)) p else t) dead
 
-  octets_in-live : (t : Turn) (b : List ℕ) → is_live (state_of t p) ≡ true
+  pub octets_in-live : (t : Turn) (b : List ℕ) → is_live (state_of t p) ≡ true
       → octets_in setup t p b ≡ take_turns setup (length (wait_of t p ++ b)) (set_wait t p (wait_of t p ++ b)) p
   unfolding octets_in
   octets_in-live t b live = ap (λ (c : Bool). if c
@@ -313,7 +313,7 @@ module _ (setup : Setup) (p : ℕ) where
       ∙ take_turns-still (length whole) t [] (get_or_past (t.speaker).waits (p - 1) [] past) refl refl
 
   -- octets come in two pieces, within one event
-  octets_in-append : (t : Turn) (a b : List ℕ)
+  pub octets_in-append : (t : Turn) (a b : List ℕ)
       → octets_in setup t p (a ++ b) ≡ octets_in setup (octets_in setup t p a) p b
   octets_in-append t a b =
       let w = wait_of t p in
@@ -349,19 +349,26 @@ module _ (setup : Setup) (p : ℕ) where
         ]
       ]
 
+-- the second piece is taken as at the beginning of an event
+pub octets_in-pieces : (setup : Setup) (p : ℕ) (s : Speaker) (a b : List ℕ)
+    → octets_in setup (before s) p (a ++ b)
+    ≡ after (octets_in setup (before s) p a).outputs (octets_in setup (before s) p a).trace
+    (octets_in setup (before (octets_in setup (before s) p a).speaker) p b)
+octets_in-pieces setup p s a b =
+    let v = octets_in setup (before s) p a in
+    let begun : v ≡ after v.outputs v.trace (before v.speaker) =
+    ap (λ (x : List Output). record { speaker = v.speaker; outputs = x; trace = v.trace }) (sym (append-nil v.outputs))
+    ∙ ap (λ (x : Trace). record { speaker = v.speaker; outputs = v.outputs ++ []; trace = x })
+    (sym (append-nil v.trace)) in
+    octets_in-append setup p (before s) a b
+    ∙ ap (λ (x : Turn). octets_in setup x p b) begun
+    ∙ octets_in-after setup p b v.outputs v.trace (before v.speaker)
+
 -- octets that come in two pieces do what they do in one
 pub cutting_holds : cutting
 unfolding event history turn
 cutting_holds rule setup s p a b =
     let v = octets_in setup (before s) p a in
     let w = octets_in setup (before v.speaker) p b in
-    let begun : v ≡ after v.outputs v.trace (before v.speaker) =
-    ap (λ (x : List Output). record { speaker = v.speaker; outputs = x; trace = v.trace }) (sym (append-nil v.outputs))
-    ∙ ap (λ (x : Trace). record { speaker = v.speaker; outputs = v.outputs ++ []; trace = x })
-    (sym (append-nil v.trace)) in
-    let e : octets_in setup (before s) p (a ++ b) ≡ after v.outputs v.trace w =
-    octets_in-append setup p (before s) a b
-    ∙ ap (λ (x : Turn). octets_in setup x p b) begun
-    ∙ octets_in-after setup p b v.outputs v.trace (before v.speaker) in
-    ap (λ (x : Turn). record { speaker = x.speaker; outputs = x.outputs }) e
+    ap (λ (x : Turn). record { speaker = x.speaker; outputs = x.outputs }) (octets_in-pieces setup p s a b)
     ∙ ap (λ (x : List Output). record { speaker = w.speaker; outputs = v.outputs ++ x }) (sym (append-nil w.outputs))

@@ -7,7 +7,7 @@ use Rattle.bgp_fsm.specs.declared.Stimulus.TheVariants.{Start, Stop, LinkUp, Lin
 use Rattle.bgp_fsm.specs.declared.Stimulus.TheVariants.{Update, Notified, Fault, HoldDue, KeepaliveDue}
 use Rattle.bgp_fsm.specs.declared.Act.{Act}
 use Rattle.bgp_fsm.specs.declared.Act.TheVariants as acts
-use Rattle.bgp_fsm.specs.Sessions.{Session, row, is_live}
+use Rattle.bgp_fsm.specs.Sessions.{Session, row, is_live, close}
 
 -- Close is one of the acts
 abbrev pub has_close : List Act → Bool
@@ -88,3 +88,33 @@ pub row_fault : (own : ℕ) (s : Session) (now code subcode : ℕ) → is_live s
     → has_close (row own s now (Fault code subcode)).acts ≡ true
 row_fault own s now code subcode live =
     row_fault_by own s.state s.hold_at s.keepalive_at s.hold s.id s.wide now code subcode live
+
+fault_row_by : (own : ℕ) (state : State) (a b : Option ℕ) (hold id : ℕ) (wide : Bool) (now code subcode : ℕ)
+    → is_live state ≡ true
+    → row own (session_by state a b hold id wide) now (Fault code subcode)
+    ≡ close (acts.SendNotice code subcode ∷ []) (session_by state a b hold id wide)
+unfolding row
+fault_row_by own Idle a b hold id wide now code subcode live = cc
+fault_row_by own Connect a b hold id wide now code subcode live = cc
+fault_row_by own OpenSent a b hold id wide now code subcode live = refl
+fault_row_by own OpenConfirm a b hold id wide now code subcode live = refl
+fault_row_by own Established a b hold id wide now code subcode live = refl
+
+-- what a live session does at a fault
+pub fault_row : (own : ℕ) (s : Session) (now code subcode : ℕ) → is_live s.state ≡ true
+    → row own s now (Fault code subcode) ≡ close (acts.SendNotice code subcode ∷ []) s
+fault_row own s now code subcode live =
+    fault_row_by own s.state s.hold_at s.keepalive_at s.hold s.id s.wide now code subcode live
+
+down_row_by : (own : ℕ) (state : State) (a b : Option ℕ) (hold id : ℕ) (wide : Bool) (now : ℕ) → is_live state ≡ true
+    → row own (session_by state a b hold id wide) now LinkDown ≡ close [] (session_by state a b hold id wide)
+unfolding row
+down_row_by own Idle a b hold id wide now live = cc
+down_row_by own Connect a b hold id wide now live = cc
+down_row_by own OpenSent a b hold id wide now live = refl
+down_row_by own OpenConfirm a b hold id wide now live = refl
+down_row_by own Established a b hold id wide now live = refl
+
+-- what a live session does if its link is lost
+pub down_row : (own : ℕ) (s : Session) (now : ℕ) → is_live s.state ≡ true → row own s now LinkDown ≡ close [] s
+down_row own s now live = down_row_by own s.state s.hold_at s.keepalive_at s.hold s.id s.wide now live

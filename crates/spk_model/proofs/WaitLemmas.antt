@@ -108,7 +108,7 @@ module _ (setup : Setup) where
       (k.0, k.1 ∙ length-set (t.speaker).waits (p - 1) [])
 
   -- a stimulus of a live session
-  react_live : (p : ℕ) (st : Stimulus) (extra : List ℕ) (t : Turn) → is_live (state_of t p) ≡ true
+  pub react_live : (p : ℕ) (st : Stimulus) (extra : List ℕ) (t : Turn) → is_live (state_of t p) ≡ true
       → is_live (state_of (react setup t p st extra) p) ≡ not (has_close (acts_at t p st))
   unfolding react
   react_live p st extra t live =
@@ -122,7 +122,7 @@ module _ (setup : Setup) where
       (get_or-set_same (t.speaker).sessions (p - 1) after none (live_within t p live))
       ∙ row_live s.own s.session (t.speaker).clock st live
 
-  react_same : (p : ℕ) (st : Stimulus) (extra : List ℕ) (t : Turn) (x : List ℕ)
+  pub react_same : (p : ℕ) (st : Stimulus) (extra : List ℕ) (t : Turn) (x : List ℕ)
       → react setup (set_wait t p x) p st extra
       ≡ (if has_close (acts_at t p st) then react setup t p st extra else set_wait (react setup t p st extra) p x)
   unfolding react
@@ -131,7 +131,7 @@ module _ (setup : Setup) where
       let r = row s.own s.session (t.speaker).clock st in
       acts_leave p extra x r.acts (set_session t p (record s { session = r.session }))
 
-  react_long : (p : ℕ) (st : Stimulus) (extra : List ℕ) (t : Turn)
+  pub react_long : (p : ℕ) (st : Stimulus) (extra : List ℕ) (t : Turn)
       → length ((react setup t p st extra).speaker).waits ≡ length (t.speaker).waits
   unfolding react
   react_long p st extra t =

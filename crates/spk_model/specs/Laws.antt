@@ -176,16 +176,15 @@ octets_event p (b ∷ bytes) = octets p (b ∷ bytes) ∷ []
 abbrev pub notice_of : Notification → List ℕ
 notice_of n = written.notice_message n.code n.subcode n.extra
 
--- a message that is refused does what the loss of the link would do at its first octet, and sends a NOTIFICATION; x is
--- the piece before that octet
+-- a message that is refused does what the loss of the link would do at its first octet, and sends a NOTIFICATION before;
+-- x is the piece before that octet
 abbrev pub damage : Type 0
-damage = (rule : Packing) (setup : Setup) (s : Speaker) (p : ℕ) (x y : List ℕ) (n : Notification) → IsSetup setup
+damage = (rule : Packing) (setup : Setup) (s : Speaker) (p : ℕ) (x y : List ℕ) (n : Notification)
     → IsReached rule setup s → IsPeer setup p →
     let first = history rule setup s (octets_event p x) in
     let lost = event rule setup first.speaker (down p) in
     let run = event rule setup s (octets p (x ++ y)) in
-    ((x ≡ []) ⊎ (wait_in first.speaker p ≡ []))
-    → Refuses setup first.speaker p (wait_in first.speaker p ++ y) n
+    Refuses setup first.speaker p (wait_in first.speaker p ++ y) n
     → (run.speaker ≡ lost.speaker)
     × (run.outputs ≡ first.outputs ++ put p (rest_in first.speaker p) ++ put p (notice_of n) ++ lost.outputs)
 
