@@ -1,9 +1,12 @@
 // The map of entries: its changes, the search for what waits, and the loops that pack a message.
-ghost use Rattle.std.specs.Prelude.{◌≡◌, ◌≤◌, [], IsTrue, is_some, Some, None, IfSome, IfOk, OnOk, OnErr};
-ghost use Rattle.std.specs.Option.{option_map};
+ghost use Rattle.std.specs.Prelude.{◌≡◌, ◌≤◌, ℕ, List, [], IsTrue, is_some, Some, None, IfSome, IfOk, OnOk, OnErr, find};
+ghost use Rattle.std.specs.BTreeMap.Range.{entries_between};
+ghost use Rattle.std.specs.Map.Iter.{deref_pair};
+ghost use Rattle.std.specs.Option.{option_and_then, option_map};
+ghost use Rattle.std.specs.declared.ops.Bound.TheVariants.{Included, Excluded, Unbounded};
 ghost use Rattle.std.specs.Str.{bytes_eq};
 ghost use Rattle.xb_words.specs.Table.{entry_after, first_of as first_in, value_at, with_value, IsRising};
-ghost use Rattle.xb_values.specs.Prefixes.{prefix_cmp};
+ghost use Rattle.xb_values.specs.Prefixes.{Prefix, prefix_cmp};
 ghost use Rattle.xb_wire.specs.Messages.{IsMessage};
 ghost use Rattle.bgp_write.specs.Packers.{packed_so_far, buffer_of, reference_of};
 ghost use Rattle.bgp_write.specs.Packings.{announcing, withdrawing, packed_message};
@@ -74,6 +77,17 @@ fn tell(entries: &mut Entries, prefix: Prefix)
     }
 }
 
+// The first entry of a span that waits to be withdrawn.
+fn find_gone(entries: &Entries, span: Span) -> Option<(&Prefix, &Entry)>
+    ensures found { option_map deref_pair result ≡ find (λ e. is_gone e.1)
+        (entries_between prefix_cmp (Included span.first) (Included span.last) entries.now.entries) }
+    ensures rising { IsRising prefix_cmp entries.now.entries }
+{
+    entries
+        .range((Bound::Included(span.first()), Bound::Included(span.last())))
+        .find(|e| e.1.is_gone())
+}
+
 /// The part of a span from the first prefix that waits to be withdrawn. None waits outside the span.
 pub(crate) fn first_gone(entries: &Entries, span: Option<Span>) -> Option<Span>
     requires { AllInSpan is_gone span entries.now.entries }
@@ -81,10 +95,19 @@ pub(crate) fn first_gone(entries: &Entries, span: Option<Span>) -> Option<Span>
     ensures span { AllInSpan is_gone result entries.now.entries }
 {
     let span = span?;
-    let (prefix, _) = entries
-        .range((Bound::Included(span.first()), Bound::Included(span.last())))
-        .find(|e| e.1.is_gone())?;
+    let (prefix, _) = find_gone(entries, span)?;
     Some(span.from(*prefix))
+}
+
+// The first entry of a span that waits to be announced.
+fn find_fresh(entries: &Entries, span: Span) -> Option<(&Prefix, &Entry)>
+    ensures found { option_map deref_pair result ≡ find (λ e. is_fresh e.1)
+        (entries_between prefix_cmp (Included span.first) (Included span.last) entries.now.entries) }
+    ensures rising { IsRising prefix_cmp entries.now.entries }
+{
+    entries
+        .range((Bound::Included(span.first()), Bound::Included(span.last())))
+        .find(|e| e.1.is_fresh())
 }
 
 /// The part of a span from the first prefix that waits to be announced. None waits outside the span.
@@ -94,19 +117,41 @@ pub(crate) fn first_fresh(entries: &Entries, span: Option<Span>) -> Option<Span>
     ensures span { AllInSpan is_fresh result entries.now.entries }
 {
     let span = span?;
-    let (prefix, _) = entries
-        .range((Bound::Included(span.first()), Bound::Included(span.last())))
-        .find(|e| e.1.is_fresh())?;
+    let (prefix, _) = find_fresh(entries, span)?;
     Some(span.from(*prefix))
+}
+
+// The first advertised entry.
+fn find_advertised(entries: &Entries) -> Option<(&Prefix, &Entry)>
+    ensures { option_map deref_pair result ≡ find (λ e. is_some e.1.adv) entries.now.entries }
+{
+    entries.iter().find(|e| e.1.is_advertised())
+}
+
+// The first advertised entry after a prefix.
+fn find_after(entries: &Entries, prefix: Prefix) -> Option<(&Prefix, &Entry)>
+    ensures { option_map deref_pair result
+        ≡ find (λ e. is_some e.1.adv) (entries_between prefix_cmp (Excluded prefix) Unbounded entries.now.entries) }
+{
+    entries
+        .range((Bound::Excluded(prefix), Bound::Unbounded))
+        .find(|e| e.1.is_advertised())
+}
+
+// What an entry that was found is advertised with.
+fn section_of_found<'a>(found: Option<(&'a Prefix, &'a Entry)>) -> Option<(Prefix, &'a [u8])>
+    ensures { option_map {U = Prefix × List ℕ} (λ e. (e.0, e.1.now)) result
+        ≡ option_and_then (λ e. option_map (λ s. (e.0.now, s)) e.1.now.adv) found.entry }
+{
+    let (prefix, entry) = found?;
+    Some((*prefix, entry.adv()?))
 }
 
 /// The first advertised prefix, with its section.
 pub(crate) fn first_of(entries: &Entries) -> Option<(Prefix, &[u8])>
-    ensures { option_map (λ e. (e.0, e.1.now)) result
-        ≡ entry_after prefix_cmp (adv_in entries.now.entries) None }
+    ensures { option_map (λ e. (e.0, e.1.now)) result ≡ entry_after prefix_cmp (adv_in entries.now.entries) None }
 {
-    let (prefix, entry) = entries.iter().find(|e| e.1.is_advertised())?;
-    Some((*prefix, entry.adv()?))
+    section_of_found(find_advertised(entries))
 }
 
 /// The first advertised prefix after another, with its section.
@@ -114,10 +159,7 @@ pub(crate) fn first_after(entries: &Entries, prefix: Prefix) -> Option<(Prefix, 
     ensures { option_map (λ e. (e.0, e.1.now)) result
         ≡ entry_after prefix_cmp (adv_in entries.now.entries) (Some prefix) }
 {
-    let (prefix, entry) = entries
-        .range((Bound::Excluded(prefix), Bound::Unbounded))
-        .find(|e| e.1.is_advertised())?;
-    Some((*prefix, entry.adv()?))
+    section_of_found(find_after(entries, prefix))
 }
 
 // The section with which a prefix is advertised, empty if it is not.
