@@ -1,19 +1,22 @@
 -- What is pending, and the message that is formed of it, by the slots.
-use Rattle.std.proofs.Common.{◌≡◌, ℕ, ◌-◌, Bool, true, false, inl, inr, List, [], ◌∷◌, ◌++◌, Option, Some, None, refl, sym, ◌∙◌, ap, subst, filter, fold, is_some, is_none, not, ◌&&◌, ◌||◌, length}
+use Rattle.std.proofs.Common.{◌≡◌, ℕ, ◌-◌, Bool, true, false, inl, inr, List, [], ◌∷◌, ◌++◌, Option, Some, None, refl, sym, ◌∙◌, ap, subst, filter, fold, is_some, is_none, not, ◌&&◌, ◌||◌, length, arith, flat_map, take_while, ◌↔◌}
 use Rattle.std.specs.Cmp.{IsTotalOrder}
 use Rattle.std.specs.List.{AllByRecursion}
 use Rattle.std.specs.List.Sorted.{IsStrictlySortedBy}
 use Rattle.std.specs.Map.{keys_of}
-use Rattle.std.specs.Option.{option_and_then}
+use Rattle.std.specs.Option.{option_and_then, option_map}
 use Rattle.std.specs.Ordering.{ordering_reverse}
 use Rattle.std.specs.declared.cmp.Ordering.TheVariants.{Less, Equal, Greater}
 use Rattle.std.proofs.lemmas.Bool.{cases_Bool}
 use Rattle.std.proofs.lemmas.Cmp.{tied_itself}
-use Rattle.xb_words.specs.Table.{value_at, with_key, with_keys, set_of, first_of, IsRising}
+use Rattle.xb_words.specs.Table.{value_at, with_value, with_key, with_keys, set_of, first_of, IsRising}
 use Rattle.xb_words.proofs.TableSplitLemmas.{IsRising-head, IsRising-tail}
-use Rattle.xb_values.specs.Prefixes.{Prefix, Sections, prefix_cmp}
+use Rattle.xb_values.specs.Prefixes.{Prefix, Sections, prefix_cmp, prefix_octets}
 use Rattle.xb_domain.specs.declared.output.Packing.TheVariants.{Sorted}
-use Rattle.bgp_write.specs.Pending.{Formed, form, pending, same_section, announced, withdrawn_first, section_of}
+use Rattle.xb_wire.specs.Messages.{update_message}
+use Rattle.xb_wire.specs.declared.numbers.TheConstants.{EMPTY_UPDATE, MAX_MESSAGE}
+use Rattle.bgp_write.specs.Pending.{Formed, form, pending, same_section, announced, announcement, withdrawal, withdrawn_first, section_of, fitting, has_section}
+use Rattle.out_sorted.specs.Spans.{Span}
 use Rattle.out_sorted.specs.Slots.{Slot, Slots, IsSlot, IsSound, adv_in, told_in, part, with_front, keys_where, is_gone, is_fresh}
 use Rattle.out_sorted.specs.Sending.{announcement_from, withdrawal_from}
 use Rattle.out_sorted.proofs.SlotLemmas.{Above, prefix_total, value_at-part, above_part, IsRising-part}
@@ -61,8 +64,9 @@ merged_front p a b keys None (Some t) above_a above_b some is =
 merged_front p a b keys (Some s) None above_a above_b some is =
     with_keys-front p (keys_of a) (keys_of b) (keys_after p b above_b) ∙ ap (λ (l : List Prefix). p ∷ l) is
 merged_front p a b keys (Some s) (Some t) above_a above_b some is =
-    rw (tied_itself prefix_total p)
-    (with_keys-front p (keys_of a) (keys_of b) (keys_after p b above_b) ∙ ap (λ (l : List Prefix). p ∷ l) is)
+    let here : with_key prefix_cmp (p ∷ keys_of a) p ≡ p ∷ keys_of a = rw (tied_itself prefix_total p) refl in
+    ap (λ (l : List Prefix). with_keys prefix_cmp l (keys_of b)) here
+    ∙ with_keys-front p (keys_of a) (keys_of b) (keys_after p b above_b) ∙ ap (λ (l : List Prefix). p ∷ l) is
 
 merged : (es : Slots) → IsRising prefix_cmp es → AllByRecursion IsSlot es
     → with_keys prefix_cmp (keys_of (adv_in es)) (keys_of (told_in es)) ≡ keys_of es
@@ -106,8 +110,8 @@ filter-keys es (f ∷ fs) rising all =
     let same : at es f.0 ≡ waits f.1 = ap (λ o. not (same_section o (value_at prefix_cmp (told_in es) f.0))) adv
     ∙ ap (λ o. not (same_section f.1.adv o)) told in
     elim (cases_Bool (waits f.1)) [
-      | inl yes ↦ rw (same, yes) (ap (λ (l : List Prefix). f.0 ∷ l) (filter-keys es fs rising all.1))
-      | inr no ↦ rw (same, no) (filter-keys es fs rising all.1)
+      | inl wait ↦ rw (same, wait) (ap (λ (l : List Prefix). f.0 ∷ l) (filter-keys es fs rising all.1))
+      | inr calm ↦ rw (same, calm) (filter-keys es fs rising all.1)
     ]
 
 -- the pending prefixes are those whose slots wait
@@ -141,8 +145,8 @@ filter-gone es (f ∷ fs) rising slots all =
     elim (cases_Bool (is_gone f.1)) [
       | inl gone ↦ rw (gone_waits f slots.0 gone, adv, gone) (ap (λ (l : List Prefix). f.0 ∷ l) rest)
       | inr here ↦ elim (cases_Bool (waits f.1)) [
-        | inl yes ↦ rw (yes, adv, here) rest
-        | inr no ↦ rw (no, here) rest
+        | inl wait ↦ rw (wait, adv, here) rest
+        | inr calm ↦ rw (calm, here) rest
       ]
     ]
 
@@ -155,8 +159,8 @@ waits-fresh (e ∷ es) none = elim (cases_Bool (is_gone e.1)) [
       let rest = waits-fresh es (rw here at none) in
       let some : is_some e.1.adv ≡ true = not_none e.1.adv here in
       elim (cases_Bool (waits e.1)) [
-        | inl yes ↦ rw (yes, some, yes) (ap (λ (l : List Prefix). e.0 ∷ l) rest)
-        | inr no ↦ rw (no, some, no) rest
+        | inl wait ↦ rw (wait, some) (ap (λ (l : List Prefix). e.0 ∷ l) rest)
+        | inr calm ↦ rw (calm, some) rest
       ]
 ]
   where
@@ -189,7 +193,18 @@ form-gone es p sound is =
     let split = some_first (keys_where is_gone es) p is in
     form-slots es sound
     ∙ ap (withdrawn_first Sorted (adv_in es) (told_in es) (keys_where waits es)) split.1
-    ∙ rw (sym split.1) refl
+    ∙ ap (λ (l : List Prefix). Some (withdrawal (told_in es) l)) (sym split.1)
+
+room_left : (n : ℕ) → n - 0 ≡ n
+room_left n = omega arith
+
+abbrev announced_in : ℕ → Slots → List ℕ → Formed
+announced_in room es s =
+    let ps = fitting room (take_while (has_section (adv_in es) s) (keys_where is_fresh es)) in
+    record {
+      message = update_message (record { withdrawn = []; section = s; nlri = flat_map prefix_octets ps });
+      told = fold (λ t q. with_value prefix_cmp t q s) (told_in es) ps;
+    }
 
 -- and else announces, if any waits for that
 pub form-fresh : (es : Slots) (p : Prefix) → IsSound es → first_of (keys_where is_gone es) ≡ None
@@ -198,10 +213,12 @@ pub form-fresh : (es : Slots) (p : Prefix) → IsSound es → first_of (keys_whe
 form-fresh es p sound none is =
     let gone = no_first (keys_where is_gone es) none in
     let split = some_first (keys_where is_fresh es) p is in
+    let s = section_of (adv_in es) p in
     form-slots es sound
     ∙ ap (withdrawn_first Sorted (adv_in es) (told_in es) (keys_where waits es)) gone
     ∙ ap (announced Sorted (adv_in es) (told_in es)) (waits-fresh es gone ∙ split.1)
-    ∙ rw (sym split.1) refl
+    ∙ ap (λ (l : List Prefix). Some (announcement (told_in es) s (take_while (has_section (adv_in es) s) l))) (sym split.1)
+    ∙ ap (λ (n : ℕ). Some (announced_in n es s)) (sym (room_left (MAX_MESSAGE - EMPTY_UPDATE - length s)))
 
 -- there is none if none waits
 pub form-none : (es : Slots) → IsSound es → first_of (keys_where is_gone es) ≡ None
@@ -228,3 +245,38 @@ none-pending es sound drained =
     sym (filter-gone es es sound.rising sound.slots (found es sound.rising))
     ∙ ap (filter (λ p. is_none (value_at prefix_cmp (adv_in es) p))) waiting in
     (ap first_of gone, ap first_of (sym (waits-fresh es gone) ∙ waiting))
+
+-- whether a span was found says whether a prefix waits
+first_by : (span : Option Span) (o : Option Prefix) → option_map (λ s. s.first) span ≡ o → is_some span ≡ is_some o
+first_by None o is = ap is_some is
+first_by (Some s) o is = ap is_some is
+
+not_some : (o : Option Prefix) → is_some o ≡ false → o ≡ None
+not_some None is = refl
+not_some (Some p) is = absurd (cc is)
+
+-- that none waits, as two searches say it
+pub pending-searched : (es : Slots) (gone fresh : Option Span) (b : Bool) → IsSound es → is_some gone ≡ false
+    → option_map (λ s. s.first) gone ≡ first_of (keys_where is_gone es)
+    → option_map (λ s. s.first) fresh ≡ first_of (keys_where is_fresh es)
+    → is_some fresh ≡ not b → (b ≡ true) ↔ (pending (adv_in es) (told_in es) ≡ [])
+pending-searched es gone fresh true sound none is_first is_next said =
+    (λ _. pending-none es sound (not_some _ (sym (first_by gone _ is_first) ∙ none))
+    (not_some _ (sym (first_by fresh _ is_next) ∙ said)), λ _. refl)
+pending-searched es gone fresh false sound none is_first is_next said = (
+  λ t. absurd (cc t),
+  λ drained.
+  let last : is_some (first_of (keys_where is_fresh es)) ≡ false = ap is_some (none-pending es sound drained).1 in
+  absurd (cc (said, first_by fresh _ is_next, last)),
+)
+
+-- and that some waits, as one does
+pub pending-found : (es : Slots) (gone : Option Span) (b : Bool) → IsSound es → is_some gone ≡ true
+    → option_map (λ s. s.first) gone ≡ first_of (keys_where is_gone es)
+    → b ≡ false → (b ≡ true) ↔ (pending (adv_in es) (told_in es) ≡ [])
+pending-found es gone b sound some is_first said = (
+  λ t. absurd (cc (said, t)),
+  λ drained.
+  let first : is_some (first_of (keys_where is_gone es)) ≡ false = ap is_some (none-pending es sound drained).0 in
+  absurd (cc (some, first_by gone _ is_first, first)),
+)
