@@ -359,7 +359,7 @@ first-no_span test (e ∷ es) all = elim (cases_Bool (test e.1)) [
 ]
 
 -- a wider span has them all
-AllInSpan-wider : (test : Slot → Bool) (a b : Option Span) (es : Slots)
+pub AllInSpan-wider : (test : Slot → Bool) (a b : Option Span) (es : Slots)
     → ((p : Prefix) → is_within a p ≡ true → is_within b p ≡ true) → AllInSpan test a es → AllInSpan test b es
 AllInSpan-wider test a b [] wider all = tt
 AllInSpan-wider test a b (e ∷ es) wider all =

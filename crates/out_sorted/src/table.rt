@@ -41,6 +41,13 @@ impl Model for SortedOut {
     ghost invariant = { λ t. IsKept t.gone t.fresh t.entries.entries };
 }
 
+// A copy of a section. The error is want of memory.
+fn copy_of(alloc: Global, section: &[u8]) -> Result<Vec<u8>, AllocError>
+    ensures { IfOk result (λ v. v.items ≡ section.now) }
+{
+    section.to_vec(alloc)
+}
+
 impl SortedOut {
     /// A table that advertises nothing to a peer that was told nothing. The error is want of memory.
     pub fn make(alloc: Global) -> Result<SortedOut, AllocError>
@@ -62,8 +69,8 @@ impl SortedOut {
             ≡ record self.old { adv = with_value prefix_cmp self.old.adv prefix section.now }) }
         ensures err { OnErr result (self.new ≡ self.old) }
     {
-        let copy = section.to_vec(self.alloc)?;
-        if put(&mut self.entries, prefix, copy)? {
+        let section = copy_of(self.alloc, section)?;
+        if put(&mut self.entries, prefix, section)? {
             self.fresh = Some(with_prefix(self.fresh, prefix));
         }
         Ok(())
