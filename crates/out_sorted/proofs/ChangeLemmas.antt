@@ -37,7 +37,7 @@ advertised_is_slot : (o : Option Slot) (x : List ℕ) (p : Prefix) → length x 
 advertised_is_slot None x p short = record { some = refl; short = short }
 advertised_is_slot (Some s) x p short = record { some = refl; short = short }
 
-written_is_sound : (es : Slots) (p : Prefix) (s : Slot) → IsSound es → ((q : Prefix) → IsSlot (q, s))
+pub written_is_sound : (es : Slots) (p : Prefix) (s : Slot) → IsSound es → ((q : Prefix) → IsSlot (q, s))
     → IsSound (with_value prefix_cmp es p s)
 written_is_sound es p s sound new = record {
   rising = IsRising-with_value prefix_cmp prefix_total es p s sound.rising;

@@ -1,3 +1,4 @@
 pub mod SlotLemmas
 pub mod PendingLemmas
 pub mod ChangeLemmas
+pub mod SendingLemmas

@@ -178,11 +178,11 @@ form-slots es sound =
     ∙ ap (withdrawn_first Sorted (adv_in es) (told_in es) (keys_where waits es))
     (filter-gone es es sound.rising sound.slots (found es sound.rising))
 
-some_first : (ps : List Prefix) (p : Prefix) → first_of ps ≡ Some p → (qs : List Prefix) × (ps ≡ p ∷ qs)
+pub some_first : (ps : List Prefix) (p : Prefix) → first_of ps ≡ Some p → (qs : List Prefix) × (ps ≡ p ∷ qs)
 some_first [] p is = absurd (cc is)
 some_first (q ∷ qs) p is = let same : q ≡ p = cc is in (qs, ap (λ x. x ∷ qs) same)
 
-no_first : (ps : List Prefix) → first_of ps ≡ None → ps ≡ []
+pub no_first : (ps : List Prefix) → first_of ps ≡ None → ps ≡ []
 no_first [] is = refl
 no_first (q ∷ qs) is = absurd (cc is)
 

@@ -9,12 +9,12 @@ ghost use Rattle.xb_words.specs.Table.{entry_after, first_of as first_in, value_
 ghost use Rattle.xb_values.specs.Prefixes.{Prefix, prefix_cmp};
 ghost use Rattle.xb_wire.specs.Messages.{IsMessage};
 ghost use Rattle.bgp_write.specs.Packers.{packed_so_far, buffer_of, reference_of};
-ghost use Rattle.bgp_write.specs.Packings.{announcing, withdrawing, packed_message};
+ghost use Rattle.bgp_write.specs.Packings.{announcing, withdrawing};
 ghost use Rattle.bgp_write.specs.Pending.{section_of};
 ghost use Rattle.bgp_write.specs.Written.{Replaces};
 ghost use Rattle.out_sorted.specs.Slots.{adv_in, told_in, advertised, is_fresh, is_gone, keys_where, retold};
 ghost use Rattle.out_sorted.specs.Slots.{taken_back, was_told, AllInSpan, IsSound, Keeps};
-ghost use Rattle.out_sorted.specs.Sending.{announcement_from, withdrawal_from};
+ghost use Rattle.out_sorted.specs.Sending.{announcement_from, formed_by, withdrawal_from};
 
 use crate::entry::Entry;
 use crate::span::Span;
@@ -198,8 +198,8 @@ fn pack_withdrawals(
     requires packer { packed_so_far packer.old ≡ withdrawing }
     ensures keeps { Keeps entries.old.entries entries.new.entries }
     ensures span { AllInSpan is_gone result entries.new.entries }
-    ensures told { told_in entries.new.entries ≡ (withdrawal_from [] entries.old.entries).told }
-    ensures message { packed_message (packed_so_far packer.new) ≡ (withdrawal_from [] entries.old.entries).message }
+    ensures formed { formed_by (packed_so_far packer.new) entries.new.entries
+        ≡ withdrawal_from [] entries.old.entries }
     ensures same_reference { reference_of packer.new ≡ reference_of packer.old }
     ensures capacity { (buffer_of packer.new).capacity ≡ (buffer_of packer.old).capacity }
 {
@@ -224,10 +224,8 @@ fn pack_announcement(
     requires packer { packed_so_far packer.old ≡ announcing (section_of (adv_in entries.old.entries) span.first) }
     ensures keeps { Keeps entries.old.entries entries.new.entries }
     ensures span { AllInSpan is_fresh result entries.new.entries }
-    ensures told { let section = section_of (adv_in entries.old.entries) span.first in
-        told_in entries.new.entries ≡ (announcement_from section [] entries.old.entries).told }
-    ensures message { let section = section_of (adv_in entries.old.entries) span.first in
-        packed_message (packed_so_far packer.new) ≡ (announcement_from section [] entries.old.entries).message }
+    ensures formed { formed_by (packed_so_far packer.new) entries.new.entries
+        ≡ announcement_from (section_of (adv_in entries.old.entries) span.first) [] entries.old.entries }
     ensures same_reference { reference_of packer.new ≡ reference_of packer.old }
     ensures capacity { (buffer_of packer.new).capacity ≡ (buffer_of packer.old).capacity }
 {
