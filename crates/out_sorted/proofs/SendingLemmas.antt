@@ -156,3 +156,17 @@ pub shape-withdrawing : (old new : Packed) (p : Prefix) → old ≡ record withd
 shape-withdrawing old new p shape more =
     more ∙ ap (λ (x : Packed). with_prefix x p) shape
     ∙ ap (λ l. record withdrawing { prefixes = l }) (sym (ap (λ (x : Packed). x.prefixes) more))
+
+-- a loop that withdraws, after one prefix more
+pub more_withdrawn : (old es new : Slots) (p first : Prefix) (packed after : Packed) → Keeps old es
+    → first_of (keys_where is_gone es) ≡ Some first
+    → packed ≡ record withdrawing { prefixes = packed.prefixes }
+    → withdrawal_from packed.prefixes es ≡ withdrawal_from [] old
+    → length (packed_message (with_prefix packed p)) ≤ MAX_MESSAGE → p ≡ first → after ≡ with_prefix packed p
+    → new ≡ without prefix_cmp es first → withdrawal_from after.prefixes new ≡ withdrawal_from [] old
+more_withdrawn old es new p first packed after keeps is shape whole fits same more done =
+    let kind : packed.withdraws ≡ true = ap (λ (x : Packed). x.withdraws) shape in
+    let short = subst (λ (q : Prefix). length (packed_message (with_prefix packed q)) ≤ MAX_MESSAGE) same fits in
+    ap (λ (x : Packed). withdrawal_from x.prefixes new) more
+    ∙ ap (λ q. withdrawal_from (packed.prefixes ++ prefix_octets q) new) same
+    ∙ sym (withdrawal_from-more es new first packed kind keeps.sound.rising is short done) ∙ whole

@@ -5,7 +5,7 @@ ghost use Rattle.std.specs.Map.Iter.{deref_pair};
 ghost use Rattle.std.specs.Option.{option_and_then, option_map};
 ghost use Rattle.std.specs.declared.ops.Bound.TheVariants.{Included, Excluded, Unbounded};
 ghost use Rattle.std.specs.Str.{bytes_eq};
-ghost use Rattle.xb_words.specs.Table.{entry_after, first_of as first_in, value_at, with_value, IsRising};
+ghost use Rattle.xb_words.specs.Table.{entry_after, first_of as first_in, value_at, with_value, without, IsRising};
 ghost use Rattle.xb_values.specs.Prefixes.{Prefix, prefix_cmp};
 ghost use Rattle.xb_wire.specs.Messages.{IsMessage};
 ghost use Rattle.bgp_write.specs.Packers.{packed_so_far, buffer_of, reference_of};
@@ -64,6 +64,13 @@ pub(crate) fn take_back(entries: &mut Entries, prefix: Prefix) -> bool
         entry.unset();
     }
     true
+}
+
+// Forgets a prefix.
+fn forget(entries: &mut Entries, prefix: Prefix)
+    ensures { entries.new.entries ≡ without prefix_cmp entries.old.entries prefix }
+{
+    let _ = entries.remove(&prefix);
 }
 
 // Takes what a prefix is advertised with for told.
@@ -205,7 +212,7 @@ fn pack_withdrawals(
 {
     let mut left = span;
     'prefixes: while packer.push(left.first()) {
-        let _ = entries.remove(&left.first());
+        forget(entries, left.first());
         left = first_gone(entries, Some(left))?;
     }
     Some(left)
