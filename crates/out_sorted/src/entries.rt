@@ -183,13 +183,13 @@ fn section_at(entries: &Entries, prefix: Prefix) -> &[u8]
     }
 }
 
-// Whether two prefixes are advertised with the same section.
-fn is_with(entries: &Entries, prefix: Prefix, first: Prefix) -> bool
+// Whether the first prefixes of two spans are advertised with the same section.
+fn is_with(entries: &Entries, left: Span, span: Span) -> bool
     requires { IsRising prefix_cmp entries.now.entries }
-    ensures { result ≡ bytes_eq (section_of (adv_in entries.now.entries) prefix)
-        (section_of (adv_in entries.now.entries) first) }
+    ensures { result ≡ bytes_eq (section_of (adv_in entries.now.entries) left.first)
+        (section_of (adv_in entries.now.entries) span.first) }
 {
-    section_at(entries, prefix) == section_at(entries, first)
+    section_at(entries, left.first()) == section_at(entries, span.first())
 }
 
 // Packs the prefixes that wait to be withdrawn, as far as the message has room. The span of those that are left is
@@ -237,8 +237,12 @@ fn pack_announcement(
     ensures capacity { (buffer_of packer.new).capacity ≡ (buffer_of packer.old).capacity }
 {
     let mut left = span;
-    'prefixes: while is_with(entries, left.first(), span.first()) && packer.push(left.first()) {
-        tell(entries, left.first());
+    'prefixes: while is_with(entries, left, span) {
+        let prefix = left.first();
+        if !packer.push(prefix) {
+            return Some(left);
+        }
+        tell(entries, prefix);
         left = first_fresh(entries, Some(left))?;
     }
     Some(left)
