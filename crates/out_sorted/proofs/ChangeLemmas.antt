@@ -20,7 +20,7 @@ told-advertised : (o : Option Slot) (x : List ℕ) → option_and_then (λ (s : 
 told-advertised None x = refl
 told-advertised (Some s) x = refl
 
-told_by : (a b : Told) → a.adv ≡ b.adv → a.told ≡ b.told → a ≡ b
+pub told_by : (a b : Told) → a.adv ≡ b.adv → a.told ≡ b.told → a ≡ b
 told_by a b adv told = ap (λ x. record { adv = x; told = a.told }) adv ∙ ap (λ x. record { adv = b.adv; told = x }) told
 
 -- a section is advertised

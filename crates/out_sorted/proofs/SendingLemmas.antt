@@ -1,9 +1,10 @@
 -- One prefix more in a message, and none more.
-use Rattle.std.proofs.Common.{◌≡◌, ℕ, ◌+◌, ◌-◌, ◌<◌, ◌≤◌, Bool, true, false, inl, inr, List, [], ◌∷◌, ◌++◌, Option, Some, None, refl, sym, ◌∙◌, ap, subst, length, fold, flat_map, take_while, is_some, is_none, not, nat_lt, ◌&&◌, ◌||◌, arith, length-append, append_assoc, append-nil, if◌then◌else◌, IsTrue, suc, take}
-use Rattle.std.specs.List.{AllByRecursion, prefix_len}
+use Rattle.std.proofs.Common.{◌≡◌, ℕ, ◌+◌, ◌-◌, ◌<◌, ◌≤◌, Bool, true, false, inl, inr, List, [], ◌∷◌, ◌++◌, Option, Some, None, refl, sym, ◌∙◌, ap, subst, length, fold, flat_map, take_while, is_some, is_none, not, nat_lt, ◌&&◌, ◌||◌, arith, length-append, append_assoc, append-nil, if◌then◌else◌, IsTrue, cond}
+use Rattle.std.specs.List.{AllByRecursion}
 use Rattle.std.specs.Option.{IfSome, option_and_then}
 use Rattle.std.specs.Str.{bytes_eq}
 use Rattle.std.proofs.lemmas.Bool.{cases_Bool, cases_lt, and_parts, lt-ltb, le-ltb}
+use Rattle.std.proofs.lemmas.List.Sums.{take_while-cons}
 use Rattle.std.proofs.lemmas.Slice.Eq.{bytes_eq-Decides}
 use Rattle.xb_words.specs.Table.{value_at, with_value, without, first_of, IsRising}
 use Rattle.xb_words.proofs.TableLemmas.{AllByRecursion-without, IsRising-without, value_at-some}
@@ -209,6 +210,16 @@ retold_is_slot e p is some = record { some = ap (λ b. b || b) some; short = is.
 some_slot : (o : Option (List ℕ)) (x : List ℕ) → o ≡ Some x → is_some o ≡ true
 some_slot o x is = ap is_some is
 
+-- its section is short
+pub section-short : (es : Slots) (p : Prefix) → IsSound es → first_of (keys_where is_fresh es) ≡ Some p
+    → length (section_of (adv_in es) p) ≤ MAX_SECTION
+section-short es p sound is =
+    let f = first-fresh es p sound.rising is in
+    let held = value_at-some prefix_cmp IsSlot es p f.0 sound.slots f.2 in
+    let short : length f.1 ≤ MAX_SECTION =
+    subst (λ (o : Option (List ℕ)). IfSome o (λ s. length s ≤ MAX_SECTION)) f.3 held.2.short in
+    subst (λ (s : List ℕ). length s ≤ MAX_SECTION) (sym (section_of-some es p f.0 f.1 sound.rising f.2 f.3)) short
+
 -- the slots after it is told
 retold-some : (es : Slots) (p : Prefix) (s : Slot) → value_at prefix_cmp es p ≡ Some s
     → retold es p (value_at prefix_cmp es p) ≡ with_value prefix_cmp es p (record s { told = s.adv })
@@ -278,12 +289,6 @@ adv-retold es p rising is =
     ∙ part-with_value-same (λ s. s.adv) es p (record f.0 { told = f.0.adv }) rising
     (ap (option_and_then (λ (s : Slot). s.adv)) f.2)
 
--- a run goes on with what passes
-take_while-passes : (f : Prefix → Bool) (p : Prefix) (ps : List Prefix) → f p ≡ true
-    → take_while f (p ∷ ps) ≡ p ∷ take_while f ps
-take_while-passes f p ps goes =
-    let one : 1 + prefix_len f ps ≡ suc (prefix_len f ps) = omega arith in rw goes (ap (λ n. take n (p ∷ ps)) one)
-
 abbrev announcement_with : List ℕ → List Prefix → List ℕ → Sections → Formed
 announcement_with s ps octets told = record {
   message = update_message (record { withdrawn = []; section = s; nlri = octets });
@@ -309,7 +314,7 @@ announcement_from-more es new p s packed shape rising is same fits done =
     ap (λ (x : Packed). if x.withdraws then 0 else length x.section) shape in
     let here = has_room packed (length s) p width fits in
     let goes : has p ≡ true = has_section-fresh es p s rising is ∙ same in
-    let longer = take_while-passes has p rest goes in
+    let longer : take_while has (p ∷ rest) ≡ p ∷ run = take_while-cons has p rest ∙ rw goes refl in
     let fit : fitting room (p ∷ run) ≡ p ∷ fitting (room - length octets) run = rw here refl in
     let ps : to_announce s packed.prefixes es ≡ p ∷ next =
     ap (λ (l : List Prefix). fitting room (take_while has l)) (keys-retold es p rising is)
@@ -341,12 +346,15 @@ announcement_from-full es p s packed shape is full =
     ap (λ (x : Packed). if x.withdraws then 0 else length x.section) shape in
     let here = no_room packed (length s) p width full in
     let split = some_first (keys_where is_fresh es) p is in
-    let none : to_announce s packed.prefixes es ≡ [] =
-    ap (λ (l : List Prefix). fitting room (take_while has l)) split.1
-    ∙ elim (cases_Bool (has p)) [
-      | inl goes ↦ ap (fitting room) (take_while-passes has p split.0 goes) ∙ rw here refl
+    let run = take_while has split.0 in
+    let fit : fitting room (p ∷ run) ≡ [] = rw here refl in
+    let last : fitting room (cond (has p) (p ∷ run) []) ≡ [] = elim (cases_Bool (has p)) [
+      | inl goes ↦ rw goes fit
       | inr other ↦ rw other refl
     ] in
+    let none : to_announce s packed.prefixes es ≡ [] =
+    ap (λ (l : List Prefix). fitting room (take_while has l)) split.1
+    ∙ ap (fitting room) (take_while-cons has p split.0) ∙ last in
     ap (announcement_of s packed.prefixes (told_in es)) none ∙ announcement_of-none packed s es shape
 
 pub announcement_from-other : (es : Slots) (p : Prefix) (s : List ℕ) (packed : Packed)
