@@ -22,9 +22,9 @@ pub pending-formed : (es : Slots) (t : Told) (f : Formed) → IsSound es → tol
 pending-formed es t f sound seen is = (
   λ never. absurd (cc never),
   λ drained.
-  let calm = none-pending es sound (subst (λ (u : Told). pending u.adv u.told ≡ []) (sym seen) drained) in
-  let none = form-seen es t None seen (form-none es sound calm.0 calm.1) in
-  absurd (cc (is, none)),
+      let calm = none-pending es sound (subst (λ (u : Told). pending u.adv u.told ≡ []) (sym seen) drained) in
+      let none = form-seen es t None seen (form-none es sound calm.0 calm.1) in
+      absurd (cc (is, none)),
 )
 
 pub pending-drained : (es : Slots) (t : Told) → IsSound es → told_of es ≡ t → first_of (keys_where is_gone es) ≡ None

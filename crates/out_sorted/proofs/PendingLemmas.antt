@@ -260,14 +260,16 @@ pub pending-searched : (es : Slots) (gone fresh : Option Span) (b : Bool) → Is
     → option_map (λ s. s.first) gone ≡ first_of (keys_where is_gone es)
     → option_map (λ s. s.first) fresh ≡ first_of (keys_where is_fresh es)
     → is_some fresh ≡ not b → (b ≡ true) ↔ (pending (adv_in es) (told_in es) ≡ [])
-pending-searched es first fresh true sound none is_first is_next said =
-    (λ _. pending-none es sound (not_some _ (sym (first_by first _ is_first) ∙ none))
-    (not_some _ (sym (first_by fresh _ is_next) ∙ said)), λ _. refl)
+pending-searched es first fresh true sound none is_first is_next said = (
+  λ _. pending-none es sound (not_some _ (sym (first_by first _ is_first) ∙ none))
+      (not_some _ (sym (first_by fresh _ is_next) ∙ said)),
+  λ _. refl,
+)
 pending-searched es first fresh false sound none is_first is_next said = (
   λ t. absurd (cc t),
   λ drained.
-  let last : is_some (first_of (keys_where is_fresh es)) ≡ false = ap is_some (none-pending es sound drained).1 in
-  absurd (cc (said, first_by fresh _ is_next, last)),
+      let last : is_some (first_of (keys_where is_fresh es)) ≡ false = ap is_some (none-pending es sound drained).1 in
+      absurd (cc (said, first_by fresh _ is_next, last)),
 )
 
 -- and that some waits, as one does
@@ -277,6 +279,6 @@ pub pending-found : (es : Slots) (gone : Option Span) (b : Bool) → IsSound es 
 pending-found es first b sound some is_first said = (
   λ t. absurd (cc (said, t)),
   λ drained.
-  let none : is_some (first_of (keys_where is_gone es)) ≡ false = ap is_some (none-pending es sound drained).0 in
-  absurd (cc (some, first_by first _ is_first, none)),
+      let none : is_some (first_of (keys_where is_gone es)) ≡ false = ap is_some (none-pending es sound drained).0 in
+      absurd (cc (some, first_by first _ is_first, none)),
 )

@@ -337,9 +337,9 @@ AllInSpan-from test span (e ∷ es) p rising is all = elim (cases_Bool (test e.1
       ) in
       subst (λ (k : Prefix). AllInSpan test (Some (record span { first = k })) (e ∷ es)) key here
   | inr fails ↦ (
-      λ passes. absurd (cc (fails, passes)),
-      AllInSpan-from test span es p (tail_of e es rising) (rw fails at is) all.1,
-    )
+    λ passes. absurd (cc (fails, passes)),
+    AllInSpan-from test span es p (tail_of e es rising) (rw fails at is) all.1,
+  )
 ]
 
 -- no span is needed if no slot passes
@@ -406,7 +406,6 @@ first-part-after f (e ∷ es) p = elim (cases_Bool (is_lt (prefix_cmp p e.0))) [
         → entries_after prefix_cmp t (Some p) ≡ entries_after prefix_cmp (with_front k o t) (Some p)
     left_out k None t before = refl
     left_out k (Some s) t before = rw before refl
-
 
 abbrev advertised_in : Option (Prefix × Slot) → Option (Prefix × List ℕ)
 advertised_in o = option_and_then (λ e. option_map (λ s. (e.0, s)) e.1.adv) o

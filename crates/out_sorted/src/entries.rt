@@ -194,11 +194,7 @@ fn is_with(entries: &Entries, left: Span, span: Span) -> bool
 
 // Packs the prefixes that wait to be withdrawn, as far as the message has room. The span of those that are left is
 // returned.
-fn pack_withdrawals(
-    entries: &mut Entries,
-    packer: &mut Packer<'_>,
-    span: Span,
-) -> Option<Span>
+fn pack_withdrawals(entries: &mut Entries, packer: &mut Packer<'_>, span: Span) -> Option<Span>
     requires sound { IsSound entries.old.entries }
     requires first { Some span.first ≡ first_in (keys_where is_gone entries.old.entries) }
     requires span { AllInSpan is_gone (Some span) entries.old.entries }
@@ -220,11 +216,7 @@ fn pack_withdrawals(
 
 // Packs the prefixes that wait to be announced, up to the first with another section than the first of all, as far as
 // the message has room. The span of those that are left is returned.
-fn pack_announcement(
-    entries: &mut Entries,
-    packer: &mut Packer<'_>,
-    span: Span,
-) -> Option<Span>
+fn pack_announcement(entries: &mut Entries, packer: &mut Packer<'_>, span: Span) -> Option<Span>
     requires sound { IsSound entries.old.entries }
     requires first { Some span.first ≡ first_in (keys_where is_fresh entries.old.entries) }
     requires span { AllInSpan is_fresh (Some span) entries.old.entries }
