@@ -1,16 +1,19 @@
 -- What a change of what is advertised does to the slots.
-use Rattle.std.proofs.Common.{◌≡◌, ◌≤◌, Bool, true, false, List, ℕ, Option, Some, None, refl, sym, ◌∙◌, ap, length, is_some, ◌||◌}
-use Rattle.std.specs.List.{AllByRecursion}
+use Rattle.std.proofs.Common.{◌≡◌, ◌≤◌, Bool, true, false, List, ℕ, Option, Some, None, refl, sym, ◌∙◌, ap, length}
+use Rattle.std.proofs.Common.{is_some}
 use Rattle.std.specs.Option.{option_and_then}
-use Rattle.std.specs.declared.cmp.Ordering.TheVariants.{Equal}
 use Rattle.xb_words.specs.Table.{value_at, with_value, without, IsRising}
-use Rattle.xb_words.proofs.TableLemmas.{AllByRecursion-with_value, AllByRecursion-without, IsRising-with_value, IsRising-without, without-absent}
+use Rattle.xb_words.proofs.TableLemmas.{AllByRecursion-with_value, AllByRecursion-without, IsRising-with_value}
+use Rattle.xb_words.proofs.TableLemmas.{IsRising-without, without-absent}
 use Rattle.xb_values.specs.Prefixes.{Prefix, prefix_cmp}
 use Rattle.xb_wire.specs.declared.numbers.TheConstants.{MAX_SECTION}
 use Rattle.out_sorted.specs.Told.{Told}
 use Rattle.out_sorted.specs.Spans.{Span, is_within}
-use Rattle.out_sorted.specs.Slots.{Slot, Slots, IsSlot, IsSound, IsKept, AllInSpan, adv_in, told_in, told_of, advertised, taken_back, was_told, is_gone, is_fresh}
-use Rattle.out_sorted.proofs.SlotLemmas.{prefix_total, value_at-part, part-with_value-some, part-with_value-none, part-with_value-same, part-without, part-without-same, AllInSpan-with_value, AllInSpan-wider}
+use Rattle.out_sorted.specs.Slots.{Slot, Slots, IsSlot, IsSound, IsKept, AllInSpan, adv_in, told_of, advertised}
+use Rattle.out_sorted.specs.Slots.{taken_back, was_told, is_gone, is_fresh}
+use Rattle.out_sorted.proofs.SlotLemmas.{prefix_total, value_at-part, part-with_value-some, part-with_value-none}
+use Rattle.out_sorted.proofs.SlotLemmas.{part-with_value-same, part-without, part-without-same, AllInSpan-with_value}
+use Rattle.out_sorted.proofs.SlotLemmas.{AllInSpan-wider}
 
 adv-advertised : (o : Option Slot) (x : List ℕ) → (advertised o x).adv ≡ Some x
 adv-advertised None x = refl
@@ -76,7 +79,8 @@ told_of-slot es p a (Some t) rising there =
     told_by _ _ (part-with_value-none (λ s. s.adv) es p s rising refl)
     (part-with_value-same (λ s. s.told) es p s rising (ap (option_and_then (λ (s : Slot). s.told)) there))
 
-pub told_of-taken_back : (es : Slots) (p : Prefix) (o : Option Slot) → IsRising prefix_cmp es → value_at prefix_cmp es p ≡ o
+pub told_of-taken_back : (es : Slots) (p : Prefix) (o : Option Slot) → IsRising prefix_cmp es
+    → value_at prefix_cmp es p ≡ o
     → told_of (taken_back es p o) ≡ record (told_of es) { adv = without prefix_cmp (adv_in es) p }
 told_of-taken_back es p None rising there =
     let absent = value_at-part (λ s. s.adv) es p rising ∙ ap (option_and_then (λ (s : Slot). s.adv)) there in
@@ -87,7 +91,8 @@ pub AllInSpan-without : (f : Slot → Bool) (a b : Option Span) (es : Slots) (p 
     → ((q : Prefix) → is_within a q ≡ true → is_within b q ≡ true)
     → AllInSpan f a es → AllInSpan f b (without prefix_cmp es p)
 AllInSpan-without f a b es p wider all =
-    AllByRecursion-without prefix_cmp (λ e. f e.1 ≡ true → is_within b e.0 ≡ true) es p (AllInSpan-wider f a b es wider all)
+    AllByRecursion-without prefix_cmp (λ e. f e.1 ≡ true → is_within b e.0 ≡ true) es p
+    (AllInSpan-wider f a b es wider all)
 
 kept-slot : (gone fresh wider : Option Span) (es : Slots) (p : Prefix) (a t : Option (List ℕ)) → IsKept gone fresh es
     → ((q : Prefix) → is_within gone q ≡ true → is_within wider q ≡ true)
@@ -109,7 +114,8 @@ kept-slot gone fresh wider es p a (Some t) kept others here =
       fresh = AllInSpan-with_value is_fresh fresh fresh es p s (λ q inside. inside) (λ t. absurd (cc t)) kept.fresh;
     }
 
-pub kept-taken_back : (gone fresh wider : Option Span) (es : Slots) (p : Prefix) (o : Option Slot) → IsKept gone fresh es
+pub kept-taken_back : (gone fresh wider : Option Span) (es : Slots) (p : Prefix) (o : Option Slot)
+    → IsKept gone fresh es
     → ((q : Prefix) → is_within gone q ≡ true → is_within wider q ≡ true)
     → (was_told o ≡ true → is_within wider p ≡ true) → IsKept wider fresh (taken_back es p o)
 kept-taken_back gone fresh wider es p None kept others here = record {

@@ -1,15 +1,13 @@
 -- What a table says of its next message.
-use Rattle.std.proofs.Common.{◌≡◌, true, false, [], Option, Some, None, ◌↔◌, refl, sym, ◌∙◌, ap, subst, is_some}
+use Rattle.std.proofs.Common.{◌≡◌, true, false, [], Option, Some, None, ◌↔◌, refl, sym, ◌∙◌, ap, subst}
 use Rattle.xb_words.specs.Table.{first_of}
-use Rattle.xb_values.specs.Prefixes.{Prefix, Sections}
+use Rattle.xb_values.specs.Prefixes.{Sections}
 use Rattle.xb_domain.specs.declared.output.Packing.TheVariants.{Sorted}
-use Rattle.bgp_write.specs.Pending.{Formed, form, pending, section_of}
+use Rattle.bgp_write.specs.Pending.{Formed, form, pending}
 use Rattle.out_sorted.specs.Told.{Told, told_after}
-use Rattle.out_sorted.specs.Spans.{Span}
 use Rattle.out_sorted.specs.Slots.{Slots, IsSound, adv_in, told_in, told_of, keys_where, is_gone, is_fresh}
-use Rattle.out_sorted.specs.Sending.{announcement_from, withdrawal_from}
 use Rattle.out_sorted.proofs.ChangeLemmas.{told_by}
-use Rattle.out_sorted.proofs.PendingLemmas.{form-gone, form-fresh, form-none, none-pending, pending-none}
+use Rattle.out_sorted.proofs.PendingLemmas.{form-none, none-pending, pending-none}
 
 -- the message by what contracts see
 pub form-seen : (es : Slots) (t : Told) (o : Option Formed) → told_of es ≡ t → form Sorted (adv_in es) (told_in es) ≡ o

@@ -1,12 +1,12 @@
 -- What is pending, and the message that is formed of it, by the slots.
-use Rattle.std.proofs.Common.{◌≡◌, ℕ, ◌-◌, Bool, true, false, inl, inr, List, [], ◌∷◌, ◌++◌, Option, Some, None, refl, sym, ◌∙◌, ap, subst, filter, fold, is_some, is_none, not, ◌&&◌, ◌||◌, length, arith, flat_map, take_while, ◌↔◌}
-use Rattle.std.specs.Cmp.{IsTotalOrder}
+use Rattle.std.proofs.Common.{◌≡◌, ℕ, ◌-◌, Bool, true, false, inl, inr, List, [], ◌∷◌, ◌++◌, Option, Some, None, refl}
+use Rattle.std.proofs.Common.{sym, ◌∙◌, ap, filter, fold, is_some, is_none, not, ◌||◌, length, arith, flat_map}
+use Rattle.std.proofs.Common.{take_while, ◌↔◌}
 use Rattle.std.specs.List.{AllByRecursion}
-use Rattle.std.specs.List.Sorted.{IsStrictlySortedBy}
 use Rattle.std.specs.Map.{keys_of}
 use Rattle.std.specs.Option.{option_and_then, option_map}
 use Rattle.std.specs.Ordering.{ordering_reverse}
-use Rattle.std.specs.declared.cmp.Ordering.TheVariants.{Less, Equal, Greater}
+use Rattle.std.specs.declared.cmp.Ordering.TheVariants.{Less, Greater}
 use Rattle.std.proofs.lemmas.Bool.{cases_Bool}
 use Rattle.std.proofs.lemmas.Cmp.{tied_itself}
 use Rattle.xb_words.specs.Table.{value_at, with_value, with_key, with_keys, set_of, first_of, IsRising}
@@ -15,9 +15,11 @@ use Rattle.xb_values.specs.Prefixes.{Prefix, Sections, prefix_cmp, prefix_octets
 use Rattle.xb_domain.specs.declared.output.Packing.TheVariants.{Sorted}
 use Rattle.xb_wire.specs.Messages.{update_message}
 use Rattle.xb_wire.specs.declared.numbers.TheConstants.{EMPTY_UPDATE, MAX_MESSAGE}
-use Rattle.bgp_write.specs.Pending.{Formed, form, pending, same_section, announced, announcement, withdrawal, withdrawn_first, section_of, fitting, has_section}
+use Rattle.bgp_write.specs.Pending.{Formed, form, pending, same_section, announced, announcement, withdrawal}
+use Rattle.bgp_write.specs.Pending.{withdrawn_first, section_of, fitting, has_section}
 use Rattle.out_sorted.specs.Spans.{Span}
-use Rattle.out_sorted.specs.Slots.{Slot, Slots, IsSlot, IsSound, adv_in, told_in, part, with_front, keys_where, is_gone, is_fresh}
+use Rattle.out_sorted.specs.Slots.{Slot, Slots, IsSlot, IsSound, adv_in, told_in, with_front, keys_where, is_gone}
+use Rattle.out_sorted.specs.Slots.{is_fresh}
 use Rattle.out_sorted.specs.Sending.{announcement_from, withdrawal_from}
 use Rattle.out_sorted.proofs.SlotLemmas.{Above, prefix_total, value_at-part, above_part, IsRising-part}
 
@@ -47,7 +49,8 @@ keys_after : {X : Type 0} (p : Prefix) (es : List (Prefix × X)) → Above p es 
 keys_after p [] above = tt
 keys_after p (e ∷ es) above = (above.0, keys_after p es above.1)
 
-set_of-keys : {X : Type 0} (es : List (Prefix × X)) → IsRising prefix_cmp es → set_of prefix_cmp (keys_of es) ≡ keys_of es
+set_of-keys : {X : Type 0} (es : List (Prefix × X)) → IsRising prefix_cmp es
+    → set_of prefix_cmp (keys_of es) ≡ keys_of es
 set_of-keys [] rising = refl
 set_of-keys (e ∷ es) rising =
     with_keys-front e.0 [] (keys_of es) (keys_after e.0 es (IsRising-head prefix_cmp prefix_total e es rising))
@@ -78,7 +81,8 @@ merged (e ∷ es) rising slots =
     (merged es (IsRising-tail prefix_cmp prefix_total e es rising) slots.1)
 
 -- each slot is found
-later : (e : Prefix × Slot) (es fs : Slots) → Above e.0 fs → AllByRecursion (λ f. value_at prefix_cmp es f.0 ≡ Some f.1) fs
+later : (e : Prefix × Slot) (es fs : Slots) → Above e.0 fs
+    → AllByRecursion (λ f. value_at prefix_cmp es f.0 ≡ Some f.1) fs
     → AllByRecursion (λ f. value_at prefix_cmp (e ∷ es) f.0 ≡ Some f.1) fs
 later e es [] above all = tt
 later e es (f ∷ fs) above all = (rw (less_back e.0 f.0 above.0) all.0, later e es fs above.1 all.1)
@@ -217,7 +221,8 @@ form-fresh es p sound none is =
     form-slots es sound
     ∙ ap (withdrawn_first Sorted (adv_in es) (told_in es) (keys_where waits es)) gone
     ∙ ap (announced Sorted (adv_in es) (told_in es)) (waits-fresh es gone ∙ split.1)
-    ∙ ap (λ (l : List Prefix). Some (announcement (told_in es) s (take_while (has_section (adv_in es) s) l))) (sym split.1)
+    ∙ ap (λ (l : List Prefix). Some (announcement (told_in es) s (take_while (has_section (adv_in es) s) l)))
+    (sym split.1)
     ∙ ap (λ (n : ℕ). Some (announced_in n es s)) (sym (room_left (MAX_MESSAGE - EMPTY_UPDATE - length s)))
 
 -- there is none if none waits

@@ -1,6 +1,8 @@
 -- One prefix more in a message, and none more.
-use Rattle.std.proofs.Common.{◌≡◌, ℕ, ◌+◌, ◌-◌, ◌<◌, ◌≤◌, Bool, true, false, inl, inr, List, [], ◌∷◌, ◌++◌, Option, Some, None, refl, sym, ◌∙◌, ap, subst, length, fold, flat_map, take_while, is_some, is_none, not, nat_lt, ◌&&◌, ◌||◌, arith, length-append, append_assoc, append-nil, if◌then◌else◌, IsTrue, cond}
-use Rattle.std.specs.List.{AllByRecursion}
+use Rattle.std.proofs.Common.{◌≡◌, ℕ, ◌+◌, ◌-◌, ◌<◌, ◌≤◌, true, false, inl, inr, List, [], ◌∷◌, ◌++◌, Option, Some}
+use Rattle.std.proofs.Common.{None, refl, sym, ◌∙◌, ap, subst, length, fold, flat_map, take_while, is_some, is_none}
+use Rattle.std.proofs.Common.{not, nat_lt, ◌||◌, arith, length-append, append_assoc, append-nil, if◌then◌else◌, IsTrue}
+use Rattle.std.proofs.Common.{cond}
 use Rattle.std.specs.Option.{IfSome, option_and_then}
 use Rattle.std.specs.Str.{bytes_eq}
 use Rattle.std.proofs.lemmas.Bool.{cases_Bool, cases_lt, and_parts, lt-ltb, le-ltb}
@@ -14,10 +16,13 @@ use Rattle.xb_wire.specs.declared.numbers.TheConstants.{EMPTY_UPDATE, MAX_MESSAG
 use Rattle.bgp_write.specs.Packings.{Packed, packed_message, with_prefix, withdrawing, announcing}
 use Rattle.bgp_write.specs.Pending.{Formed, fitting, has_section, same_section, section_of}
 use Rattle.bgp_write.proofs.MessageLemmas.{length-packed_message}
-use Rattle.out_sorted.specs.Spans.{Span}
-use Rattle.out_sorted.specs.Slots.{Slot, Slots, IsSlot, IsSound, Keeps, adv_in, told_in, retold, keys_where, is_gone, is_fresh}
-use Rattle.out_sorted.specs.Sending.{announcement_from, announcement_of, formed_by, withdrawal_from, withdrawal_of, to_announce, to_withdraw}
-use Rattle.out_sorted.proofs.SlotLemmas.{prefix_total, value_at-part, part-with_value-some, part-with_value-same, part-without, part-without-same, first-where, keys_where-with_value, keys_where-without, AllInSpan-with_value, section_of-some}
+use Rattle.out_sorted.specs.Slots.{Slot, Slots, IsSlot, IsSound, Keeps, adv_in, told_in, retold, keys_where, is_gone}
+use Rattle.out_sorted.specs.Slots.{is_fresh}
+use Rattle.out_sorted.specs.Sending.{announcement_from, announcement_of, formed_by, withdrawal_from, withdrawal_of}
+use Rattle.out_sorted.specs.Sending.{to_announce, to_withdraw}
+use Rattle.out_sorted.proofs.SlotLemmas.{prefix_total, value_at-part, part-with_value-some, part-with_value-same}
+use Rattle.out_sorted.proofs.SlotLemmas.{part-without, part-without-same, first-where, keys_where-with_value}
+use Rattle.out_sorted.proofs.SlotLemmas.{keys_where-without, AllInSpan-with_value, section_of-some}
 use Rattle.out_sorted.proofs.ChangeLemmas.{AllInSpan-without, written_is_sound}
 use Rattle.out_sorted.proofs.PendingLemmas.{no_first, some_first}
 
@@ -58,24 +63,28 @@ fewer-without es new p rising is done =
 abbrev room_after : ℕ → List ℕ → ℕ
 room_after section packed = MAX_MESSAGE - EMPTY_UPDATE - section - length packed
 
-has_room : (packed : Packed) (section : ℕ) (p : Prefix) → (if packed.withdraws then 0 else length packed.section) ≡ section
+has_room : (packed : Packed) (section : ℕ) (p : Prefix)
+    → (if packed.withdraws then 0 else length packed.section) ≡ section
     → length (packed_message (with_prefix packed p)) ≤ MAX_MESSAGE
     → nat_lt (room_after section packed.prefixes) (length (prefix_octets p)) ≡ false
 has_room packed section p is fits =
     let size = length-packed_message (with_prefix packed p) in
     let both = length-append packed.prefixes (prefix_octets p) in
     let short : EMPTY_UPDATE + section + (length packed.prefixes + length (prefix_octets p)) ≤ MAX_MESSAGE =
-    subst (λ (n : ℕ). n ≤ MAX_MESSAGE) (size ∙ ap (λ n. EMPTY_UPDATE + n + length (packed.prefixes ++ prefix_octets p)) is
+    subst (λ (n : ℕ). n ≤ MAX_MESSAGE)
+    (size ∙ ap (λ n. EMPTY_UPDATE + n + length (packed.prefixes ++ prefix_octets p)) is
     ∙ ap (λ n. EMPTY_UPDATE + section + n) both) fits in
     le-ltb _ _ (omega (arith, short))
 
-no_room : (packed : Packed) (section : ℕ) (p : Prefix) → (if packed.withdraws then 0 else length packed.section) ≡ section
+no_room : (packed : Packed) (section : ℕ) (p : Prefix)
+    → (if packed.withdraws then 0 else length packed.section) ≡ section
     → (length (packed_message (with_prefix packed p)) ≤ MAX_MESSAGE → ⊥)
     → nat_lt (room_after section packed.prefixes) (length (prefix_octets p)) ≡ true
 no_room packed section p is full =
     let size = length-packed_message (with_prefix packed p) in
     let both = length-append packed.prefixes (prefix_octets p) in
-    let whole : length (packed_message (with_prefix packed p)) ≡ EMPTY_UPDATE + section + (length packed.prefixes + length (prefix_octets p)) =
+    let whole : length (packed_message (with_prefix packed p))
+    ≡ EMPTY_UPDATE + section + (length packed.prefixes + length (prefix_octets p)) =
     size ∙ ap (λ n. EMPTY_UPDATE + n + length (packed.prefixes ++ prefix_octets p)) is
     ∙ ap (λ n. EMPTY_UPDATE + section + n) both in
     let past : (EMPTY_UPDATE + section + (length packed.prefixes + length (prefix_octets p)) ≤ MAX_MESSAGE → ⊥) =
@@ -97,11 +106,13 @@ withdrawal_with ps octets told = record {
   told = fold (without prefix_cmp) told ps;
 }
 
-next_room : (section : ℕ) (packed octets : List ℕ) → room_after section packed - length octets ≡ room_after section (packed ++ octets)
+next_room : (section : ℕ) (packed octets : List ℕ)
+    → room_after section packed - length octets ≡ room_after section (packed ++ octets)
 next_room section packed octets = omega (arith, length-append packed octets)
 
 -- one more prefix is withdrawn
-pub withdrawal_from-more : (es new : Slots) (p : Prefix) (packed : Packed) → packed.withdraws ≡ true → IsRising prefix_cmp es
+pub withdrawal_from-more : (es new : Slots) (p : Prefix) (packed : Packed) → packed.withdraws ≡ true
+    → IsRising prefix_cmp es
     → first_of (keys_where is_gone es) ≡ Some p → length (packed_message (with_prefix packed p)) ≤ MAX_MESSAGE
     → new ≡ without prefix_cmp es p
     → withdrawal_from packed.prefixes es ≡ withdrawal_from (packed.prefixes ++ prefix_octets p) new
@@ -193,7 +204,8 @@ first-fresh es p rising is =
     let section = fresh_is f.0 f.2 in
     (f.0, section.0, f.1, section.1)
 
-pub fresh_is_advertised : (es : Slots) (p : Prefix) → IsRising prefix_cmp es → first_of (keys_where is_fresh es) ≡ Some p
+pub fresh_is_advertised : (es : Slots) (p : Prefix) → IsRising prefix_cmp es
+    → first_of (keys_where is_fresh es) ≡ Some p
     → IfSome (value_at prefix_cmp es p) (λ s. IsTrue (is_some s.adv))
 fresh_is_advertised es p rising is =
     let f = first-fresh es p rising is in
@@ -271,7 +283,8 @@ has_section-fresh es p s rising is =
     ap (λ o. same_section o (Some s)) found
     ∙ ap (λ x. bytes_eq x s) (sym (section_of-some es p f.0 f.1 rising f.2 f.3))
 
-told-retold : (es : Slots) (p : Prefix) (s : List ℕ) → IsRising prefix_cmp es → first_of (keys_where is_fresh es) ≡ Some p
+told-retold : (es : Slots) (p : Prefix) (s : List ℕ) → IsRising prefix_cmp es
+    → first_of (keys_where is_fresh es) ≡ Some p
     → bytes_eq (section_of (adv_in es) p) s ≡ true
     → told_in (retold es p (value_at prefix_cmp es p)) ≡ with_value prefix_cmp (told_in es) p s
 told-retold es p s rising is same =
@@ -326,7 +339,8 @@ announcement_from-more es new p s packed shape rising is same fits done =
     (sym (told-retold es p s rising is same))
     ∙ ap (announcement_from s (packed.prefixes ++ octets)) (sym done)
 
-announcement_of-none : (packed : Packed) (s : List ℕ) (es : Slots) → packed ≡ record (announcing s) { prefixes = packed.prefixes }
+announcement_of-none : (packed : Packed) (s : List ℕ) (es : Slots)
+    → packed ≡ record (announcing s) { prefixes = packed.prefixes }
     → announcement_of s packed.prefixes (told_in es) [] ≡ formed_by packed es
 announcement_of-none packed s es shape =
     ap (λ l. record {
@@ -377,10 +391,12 @@ pub announcement_from-all : (es : Slots) (s : List ℕ) (packed : Packed)
 announcement_from-all es s packed shape is =
     let room = room_after (length s) packed.prefixes in
     let none : to_announce s packed.prefixes es ≡ [] =
-    ap (λ (l : List Prefix). fitting room (take_while (has_section (adv_in es) s) l)) (no_first (keys_where is_fresh es) is) in
+    ap (λ (l : List Prefix). fitting room (take_while (has_section (adv_in es) s) l))
+    (no_first (keys_where is_fresh es) is) in
     ap (announcement_of s packed.prefixes (told_in es)) none ∙ announcement_of-none packed s es shape
 
-pub shape-announcing : (old new : Packed) (s : List ℕ) (p : Prefix) → old ≡ record (announcing s) { prefixes = old.prefixes }
+pub shape-announcing : (old new : Packed) (s : List ℕ) (p : Prefix)
+    → old ≡ record (announcing s) { prefixes = old.prefixes }
     → new ≡ with_prefix old p → new ≡ record (announcing s) { prefixes = new.prefixes }
 shape-announcing old new s p shape more =
     more ∙ ap (λ (x : Packed). with_prefix x p) shape

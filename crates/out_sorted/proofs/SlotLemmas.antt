@@ -1,11 +1,11 @@
--- Slots by rising prefix: what one part of them has after a look-up, a write and a removal, and the prefixes whose slots
--- pass a test.
-use Rattle.std.proofs.Common.{◌≡◌, ℕ, Bool, true, false, inl, inr, List, [], ◌∷◌, Option, Some, None, refl, sym, ◌∙◌, ap, subst, filter, find, is_some, Bor}
+-- Slots by rising prefix: what one part of them has after a look-up, a write and a removal, and the prefixes whose
+-- slots pass a test.
+use Rattle.std.proofs.Common.{◌≡◌, ℕ, Bool, true, false, inl, inr, List, [], ◌∷◌, Option, Some, None, refl, sym, ◌∙◌}
+use Rattle.std.proofs.Common.{ap, subst, find, is_some, Bor}
 use Rattle.std.specs.BTreeMap.{is_at}
 use Rattle.std.specs.BTreeMap.Range.{entries_between}
 use Rattle.std.specs.Cmp.{IsTotalOrder}
-use Rattle.std.specs.List.{AllByRecursion}
-use Rattle.std.specs.Map.{keys_of, set_value}
+use Rattle.std.specs.Map.{set_value}
 use Rattle.std.specs.Map.Iter.{deref_pair}
 use Rattle.std.specs.Option.{option_map, option_and_then}
 use Rattle.std.specs.Ordering.{nat_cmp, is_lt, is_le, is_eq}
@@ -17,7 +17,8 @@ use Rattle.std.proofs.lemmas.Cmp.{nat_cmp_total, on_total, then_total, tied_itse
 use Rattle.std.proofs.lemmas.Map.Lookups.{exact_pairs, exact_unsigned}
 use Rattle.xb_words.specs.Table.{value_at, with_value, without, entries_after, entry_after, first_of, IsRising}
 use Rattle.xb_words.proofs.TableLemmas.{AllByRecursion-with_value, without-absent}
-use Rattle.xb_words.proofs.TableSplitLemmas.{Each, IsRising-head, IsRising-tail, IsRising-cons, Each-trans, Each-congr, value_at-above}
+use Rattle.xb_words.proofs.TableSplitLemmas.{Each, IsRising-head, IsRising-tail, IsRising-cons, Each-trans, Each-congr}
+use Rattle.xb_words.proofs.TableSplitLemmas.{value_at-above}
 use Rattle.xb_values.specs.Prefixes.{Prefix, Sections, prefix_cmp}
 use Rattle.bgp_write.specs.Pending.{section_of}
 use Rattle.out_sorted.specs.Spans.{Span, is_within}
@@ -25,7 +26,8 @@ use Rattle.out_sorted.specs.Slots.{Slot, Slots, adv_in, part, with_front, withou
 
 -- the order of prefixes is total, and equal prefixes are one
 pub prefix_total : IsTotalOrder prefix_cmp
-prefix_total = then_total (on_total (λ (p : Prefix). p.addr) nat_cmp_total) (on_total (λ (p : Prefix). p.len) nat_cmp_total)
+prefix_total =
+    then_total (on_total (λ (p : Prefix). p.addr) nat_cmp_total) (on_total (λ (p : Prefix). p.len) nat_cmp_total)
 
 pub prefix_exact : (a b : Prefix) → prefix_cmp a b ≡ Equal → a ≡ b
 prefix_exact a b e =
@@ -51,10 +53,12 @@ tail_of e es rising = IsRising-tail prefix_cmp prefix_total e es rising
 above_none : {X : Type 0} (p : Prefix) (es : List (Prefix × X)) → Above p es → value_at prefix_cmp es p ≡ None
 above_none p es above = value_at-above prefix_cmp prefix_total p es above
 
-from_less : {X : Type 0} (p : Prefix) (e : Prefix × X) (es : List (Prefix × X)) → prefix_cmp p e.0 ≡ Less → Above e.0 es → Above p es
+from_less : {X : Type 0} (p : Prefix) (e : Prefix × X) (es : List (Prefix × X)) → prefix_cmp p e.0 ≡ Less
+    → Above e.0 es → Above p es
 from_less p e es less above = Each-trans prefix_cmp prefix_total p e es less above
 
-from_equal : {X : Type 0} (p : Prefix) (e : Prefix × X) (es : List (Prefix × X)) → prefix_cmp p e.0 ≡ Equal → Above e.0 es → Above p es
+from_equal : {X : Type 0} (p : Prefix) (e : Prefix × X) (es : List (Prefix × X)) → prefix_cmp p e.0 ≡ Equal
+    → Above e.0 es → Above p es
 from_equal p e es same above = Each-congr prefix_cmp prefix_total p e es same above
 
 -- a key that is found among later entries is after the first
@@ -75,7 +79,8 @@ with_value-same (e ∷ t) p x rising there = by_ordering (prefix_cmp p e.0)
     (λ q. let same : e.1 ≡ x = cc (rw q at there) in rw q (ap (λ y. (e.0, y) ∷ t) (sym same)))
     (λ g. rw g (ap (λ (l : List (Prefix × _)). e ∷ l) (with_value-same t p x (tail_of e t rising) (rw g at there))))
 
-above_first : {X : Type 0} (p : Prefix) (x : X) (t : List (Prefix × X)) → Above p t → with_value prefix_cmp t p x ≡ (p, x) ∷ t
+above_first : {X : Type 0} (p : Prefix) (x : X) (t : List (Prefix × X)) → Above p t
+    → with_value prefix_cmp t p x ≡ (p, x) ∷ t
 above_first p x [] above = refl
 above_first p x (e ∷ t) above = rw above.0 refl
 
@@ -93,7 +98,8 @@ IsRising-part f (e ∷ es) rising =
     let rest = IsRising-part f es (tail_of e es rising) in
     elim (f e.1) as (λ o. IsRising prefix_cmp (with_front e.0 o (part f es))) [
       | None ↦ rest
-      | Some s ↦ IsRising-cons prefix_cmp prefix_total (e.0, s) (part f es) (above_part f e.0 es (head_of e es rising)) rest
+      | Some s ↦ IsRising-cons prefix_cmp prefix_total (e.0, s) (part f es)
+          (above_part f e.0 es (head_of e es rising)) rest
     ]
 
 passed : (k p : Prefix) (o : Option (List ℕ)) (rest : Sections) → is_eq (prefix_cmp p k) ≡ false
@@ -274,7 +280,8 @@ keys_where-with_value test (e ∷ es) p s rising is new = elim (cases_Bool (test
       let key : e.0 ≡ p = cc (rw passes at is) in
       let here : keys_where test (e ∷ es) ≡ e.0 ∷ keys_where test (with_value prefix_cmp (e ∷ es) e.0 s) =
       rw (passes, tied_itself prefix_total e.0, new) refl in
-      subst (λ (k : Prefix). keys_where test (e ∷ es) ≡ k ∷ keys_where test (with_value prefix_cmp (e ∷ es) k s)) key here
+      subst (λ (k : Prefix). keys_where test (e ∷ es) ≡ k ∷ keys_where test (with_value prefix_cmp (e ∷ es) k s)) key
+      here
   | inr fails ↦
       let tail = tail_of e es rising in
       let there : first_of (keys_where test es) ≡ Some p = rw fails at is in

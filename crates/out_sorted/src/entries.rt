@@ -1,5 +1,6 @@
 // The map of entries: its changes, the search for what waits, and the loops that pack a message.
-ghost use Rattle.std.specs.Prelude.{◌≡◌, ◌≤◌, ℕ, List, [], IsTrue, is_some, Some, None, IfSome, IfOk, OnOk, OnErr, find};
+ghost use Rattle.std.specs.Prelude.{◌≡◌, ◌≤◌, ℕ, List, [], IsTrue, is_some, Some, None, IfSome, IfOk, OnOk, OnErr};
+ghost use Rattle.std.specs.Prelude.{find};
 ghost use Rattle.std.specs.BTreeMap.Range.{entries_between};
 ghost use Rattle.std.specs.Map.Iter.{deref_pair};
 ghost use Rattle.std.specs.Option.{option_and_then, option_map};
@@ -259,8 +260,8 @@ pub(crate) fn withdraw(entries: &mut Entries, span: Span, out: &mut Buf) -> Opti
     left
 }
 
-/// Writes the announcement of the first prefixes of a span that wait for it and have one section. The span of those that
-/// are left is returned.
+/// Writes the announcement of the first prefixes of a span that wait for it and have one section. The span of those
+/// that are left is returned.
 pub(crate) fn announce(entries: &mut Entries, span: Span, out: &mut Buf) -> Option<Span>
     requires room { MAX_MESSAGE ≤ out.old.capacity }
     requires sound { IsSound entries.old.entries }

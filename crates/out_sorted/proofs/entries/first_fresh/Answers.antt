@@ -1,7 +1,6 @@
-use Rattle.std.proofs.Common.{◌≡◌, Some, None, option_map, sym, ◌∙◌, ap, subst}
-use Rattle.xb_words.specs.Table.{first_of}
+use Rattle.std.proofs.Common.{Some, option_map, sym, ◌∙◌, ap, subst}
 use Rattle.out_sorted.specs.Spans.{Span}
-use Rattle.out_sorted.specs.Slots.{is_fresh, keys_where, AllInSpan}
+use Rattle.out_sorted.specs.Slots.{is_fresh, AllInSpan}
 use Rattle.out_sorted.proofs.SlotLemmas.{first-lent, first-is_within, first-no_span, AllInSpan-from, AllInSpan-none}
 use Rattle.out_sorted.proofs.entries.first_fresh.Goals as goal
 

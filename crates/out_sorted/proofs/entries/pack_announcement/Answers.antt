@@ -1,16 +1,18 @@
-use Rattle.std.proofs.Common.{◌≡◌, [], Some, None, Option, refl, sym, ◌∙◌, ap, subst, length, ◌≤◌}
+use Rattle.std.proofs.Common.{Some, Option, refl, sym, ◌∙◌, ap, subst, length, ◌≤◌}
 use Rattle.std.specs.Str.{bytes_eq}
 use Rattle.std.proofs.lemmas.Bool.{false≢true}
-use Rattle.xb_words.specs.Table.{value_at, first_of}
+use Rattle.xb_words.specs.Table.{value_at}
 use Rattle.xb_values.specs.Prefixes.{Prefix, prefix_cmp}
 use Rattle.xb_wire.specs.declared.numbers.TheConstants.{MAX_MESSAGE}
 use Rattle.bgp_write.specs.Packers.{packed_so_far}
 use Rattle.bgp_write.specs.Packings.{Packed, packed_message, with_prefix, announcing}
 use Rattle.bgp_write.specs.Pending.{section_of}
 use Rattle.out_sorted.specs.Spans.{Span}
-use Rattle.out_sorted.specs.Slots.{Slots, adv_in, is_fresh, keys_where, retold, AllInSpan}
+use Rattle.out_sorted.specs.Slots.{adv_in, is_fresh, retold, AllInSpan}
 use Rattle.out_sorted.specs.Sending.{formed_by, announcement_from}
-use Rattle.out_sorted.proofs.SendingLemmas.{keeps-retold, fewer-retold, fresh_is_advertised, more_announced, shape-announcing, announcement_from-all, announcement_from-full, announcement_from-other}
+use Rattle.out_sorted.proofs.SendingLemmas.{keeps-retold, fewer-retold, fresh_is_advertised, more_announced}
+use Rattle.out_sorted.proofs.SendingLemmas.{shape-announcing, announcement_from-all, announcement_from-full}
+use Rattle.out_sorted.proofs.SendingLemmas.{announcement_from-other}
 use Rattle.out_sorted.proofs.entries.pack_announcement.Goals as goal
 
 pub prefixes-init : goal.prefixes-init

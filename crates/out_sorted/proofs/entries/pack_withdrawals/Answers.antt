@@ -1,14 +1,15 @@
-use Rattle.std.proofs.Common.{◌≡◌, [], Some, None, Option, option_map, refl, sym, ◌∙◌, ap, subst, length, ◌≤◌}
+use Rattle.std.proofs.Common.{Some, Option, refl, sym, ◌∙◌, ap, subst, length, ◌≤◌}
 use Rattle.std.proofs.lemmas.Bool.{false≢true}
-use Rattle.xb_words.specs.Table.{without, first_of}
+use Rattle.xb_words.specs.Table.{without}
 use Rattle.xb_values.specs.Prefixes.{Prefix, prefix_cmp}
 use Rattle.xb_wire.specs.declared.numbers.TheConstants.{MAX_MESSAGE}
 use Rattle.bgp_write.specs.Packers.{packed_so_far}
 use Rattle.bgp_write.specs.Packings.{Packed, packed_message, with_prefix, withdrawing}
 use Rattle.out_sorted.specs.Spans.{Span}
-use Rattle.out_sorted.specs.Slots.{Slots, is_gone, keys_where, AllInSpan}
+use Rattle.out_sorted.specs.Slots.{is_gone, AllInSpan}
 use Rattle.out_sorted.specs.Sending.{formed_by, withdrawal_from}
-use Rattle.out_sorted.proofs.SendingLemmas.{keeps-without, fewer-without, more_withdrawn, shape-withdrawing, withdrawal_from-all, withdrawal_from-full}
+use Rattle.out_sorted.proofs.SendingLemmas.{keeps-without, fewer-without, more_withdrawn, shape-withdrawing}
+use Rattle.out_sorted.proofs.SendingLemmas.{withdrawal_from-all, withdrawal_from-full}
 use Rattle.out_sorted.proofs.entries.pack_withdrawals.Goals as goal
 
 pub prefixes-init : goal.prefixes-init
@@ -29,9 +30,9 @@ pub first_gone-requires : goal.first_gone-requires
 first_gone-requires c =
     let i = c.prefixes.invariant in
     let d = c.forget.ensures ∙ ap (without prefix_cmp c.prefixes.entries.entries) c.first-in-prefixes.ensures in
-    (keeps-without c.prefixes.entries.entries c.prefixes.entries.entries c.forget.new.entries.entries c.prefixes.left.first
-    (record { sound = i.keeps.sound; adv = refl; gone = λ span a. a; fresh = λ span a. a }) i.first d).gone
-    (Some c.prefixes.left) i.span
+    (keeps-without c.prefixes.entries.entries c.prefixes.entries.entries c.forget.new.entries.entries
+    c.prefixes.left.first
+    (record { sound = i.keeps.sound; adv = refl; gone = λ span a. a; fresh = λ span a. a }) i.first d).gone (Some c.prefixes.left) i.span
 
 pub returns-in_err-left : goal.returns-in_err-left
 returns-in_err-left c =
@@ -42,8 +43,8 @@ returns-in_err-left c =
     let d = c.forget.ensures ∙ ap (without prefix_cmp es) c.first-in-prefixes.ensures in
     let packed = packed_so_far c.prefixes.packer in
     let after = packed_so_far c.push.new.self in
-    let whole = more_withdrawn old es new c.first.result c.prefixes.left.first packed after i.keeps i.first i.shape i.whole
-    (c.push.ensures.fits.0 c.prefixes-test.true) c.first.ensures c.prefixes-test.ensures.after d in
+    let whole = more_withdrawn old es new c.first.result c.prefixes.left.first packed after i.keeps i.first i.shape
+    i.whole (c.push.ensures.fits.0 c.prefixes-test.true) c.first.ensures c.prefixes-test.ensures.after d in
     let shape = shape-withdrawing packed after c.first.result i.shape c.prefixes-test.ensures.after in
     record {
       keeps = keeps-without old es new c.prefixes.left.first i.keeps i.first d;
@@ -58,7 +59,8 @@ pub prefixes-smaller : goal.prefixes-smaller
 prefixes-smaller c =
     let i = c.prefixes.invariant in
     let d = c.forget.ensures ∙ ap (without prefix_cmp c.prefixes.entries.entries) c.first-in-prefixes.ensures in
-    fewer-without c.prefixes.entries.entries c.forget.new.entries.entries c.prefixes.left.first i.keeps.sound.rising i.first d
+    fewer-without c.prefixes.entries.entries c.forget.new.entries.entries c.prefixes.left.first i.keeps.sound.rising
+    i.first d
 
 pub prefixes-preserved : goal.prefixes-preserved
 prefixes-preserved c =
@@ -74,8 +76,8 @@ prefixes-preserved c =
       first = sym c.in_ok-left.ensures.first;
       span = c.in_ok-left.ensures.span;
       shape = shape-withdrawing packed after c.first.result i.shape c.prefixes-test.ensures.after;
-      whole = more_withdrawn old es new c.first.result c.prefixes.left.first packed after i.keeps i.first i.shape i.whole
-          (c.push.ensures.fits.0 c.prefixes-test.true) c.first.ensures c.prefixes-test.ensures.after d;
+      whole = more_withdrawn old es new c.first.result c.prefixes.left.first packed after i.keeps i.first i.shape
+          i.whole (c.push.ensures.fits.0 c.prefixes-test.true) c.first.ensures c.prefixes-test.ensures.after d;
       same_reference = c.push.ensures.same_reference ∙ i.same_reference;
       capacity = c.push.ensures.capacity ∙ i.capacity;
     }

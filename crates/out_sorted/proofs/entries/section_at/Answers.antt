@@ -1,6 +1,4 @@
-use Rattle.std.proofs.Common.{◌≡◌, Some, None, option_map, sym, ◌∙◌, ap}
-use Rattle.xb_words.specs.Table.{value_at}
-use Rattle.xb_values.specs.Prefixes.{prefix_cmp}
+use Rattle.std.proofs.Common.{sym, ◌∙◌, ap}
 use Rattle.out_sorted.specs.Slots.{Slot}
 use Rattle.std.specs.Option.{option_and_then}
 use Rattle.out_sorted.proofs.SlotLemmas.{section_of-some, section_of-none}
@@ -13,8 +11,8 @@ returns-in_default c =
 
 pub returns-in-Some-adv : goal.returns-in-Some-adv
 returns-in-Some-adv c =
-    sym (section_of-some c.args.entries.now.entries c.args.prefix c.in-Some.entry.now c.in-Some-adv.section.now c.requires
-    (sym c.in-Some.ensures.value) (sym c.in-Some-adv.ensures))
+    sym (section_of-some c.args.entries.now.entries c.args.prefix c.in-Some.entry.now c.in-Some-adv.section.now
+    c.requires (sym c.in-Some.ensures.value) (sym c.in-Some-adv.ensures))
 
 pub returns-in-None : goal.returns-in-None
 returns-in-None c =

@@ -1,9 +1,9 @@
-use Rattle.std.proofs.Common.{◌≡◌, ◌≤◌, List, ℕ, Some, length, subst, sym, ap, ◌∙◌}
-use Rattle.xb_words.specs.Table.{value_at, with_value}
+use Rattle.std.proofs.Common.{◌≤◌, List, ℕ, Some, length, subst, sym, ap, ◌∙◌}
+use Rattle.xb_words.specs.Table.{with_value}
 use Rattle.xb_values.specs.Prefixes.{prefix_cmp}
 use Rattle.xb_wire.specs.declared.numbers.TheConstants.{MAX_SECTION}
 use Rattle.out_sorted.specs.Told.{Told}
-use Rattle.out_sorted.specs.Slots.{advertised, told_of}
+use Rattle.out_sorted.specs.Slots.{told_of}
 use Rattle.out_sorted.proofs.ChangeLemmas.{kept-advertised, told_of-advertised}
 use Rattle.out_sorted.proofs.table.SortedOut.set.Goals as goal
 
@@ -12,8 +12,8 @@ invariant_of-self-then-branch c =
     let short : length c.in_ok-section.section.items ≤ MAX_SECTION =
     subst (λ (s : List ℕ). length s ≤ MAX_SECTION) (sym c.in_ok-section.ensures) c.requires in
     kept-advertised c.self.inside.gone c.self.inside.fresh (Some c.with_prefix.result) c.self.inside.entries.entries
-    c.put.new.entries.entries c.args.prefix c.in_ok-section.section.items short c.self.invariant c.with_prefix.ensures.others
-    (λ _. c.with_prefix.ensures.here) c.in_ok-put.ensures.ok
+    c.put.new.entries.entries c.args.prefix c.in_ok-section.section.items short c.self.invariant
+    c.with_prefix.ensures.others (λ _. c.with_prefix.ensures.here) c.in_ok-put.ensures.ok
 
 pub invariant_of-self-else-branch : goal.invariant_of-self-else-branch
 invariant_of-self-else-branch c =

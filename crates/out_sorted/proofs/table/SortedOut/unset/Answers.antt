@@ -1,4 +1,4 @@
-use Rattle.std.proofs.Common.{◌≡◌, Some, refl, subst, sym, ap, ◌∙◌}
+use Rattle.std.proofs.Common.{Some, refl, subst, sym, ap, ◌∙◌}
 use Rattle.xb_words.specs.Table.{value_at, without}
 use Rattle.xb_values.specs.Prefixes.{prefix_cmp}
 use Rattle.out_sorted.specs.Told.{Told}
@@ -11,8 +11,9 @@ invariant_of-self c =
     let es = c.self.inside.entries.entries in
     let wider = Some c.with_prefix.result in
     subst (λ (l : Slots). IsKept wider c.self.inside.fresh l) (sym c.take_back.ensures.after)
-    (kept-taken_back c.self.inside.gone c.self.inside.fresh wider es c.args.prefix (value_at prefix_cmp es c.args.prefix)
-    c.self.invariant c.with_prefix.ensures.others (λ _. c.with_prefix.ensures.here))
+    (kept-taken_back c.self.inside.gone c.self.inside.fresh wider es c.args.prefix
+    (value_at prefix_cmp es c.args.prefix) c.self.invariant c.with_prefix.ensures.others
+    (λ _. c.with_prefix.ensures.here))
 
 pub invariant_of-self-else-take_back : goal.invariant_of-self-else-take_back
 invariant_of-self-else-take_back c =
