@@ -1,0 +1,6 @@
+//! The sessions' half of a host, over any routes' half.
+#![tactic(auto)]
+
+mod routes;
+
+pub use routes::Routes;
