@@ -1,1 +1,3 @@
 pub mod Routed
+pub mod Meaning
+pub mod Acting

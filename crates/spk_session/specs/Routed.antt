@@ -1,34 +1,21 @@
 -- What the routes' half of a host does to routes (this project's own).
-use Rattle.std.specs.Prelude.{◌≡◌, ℕ, Bool, true, false, List, [], ◌++◌, map, fold, flat_map, Option, Some, None}
-use Rattle.std.specs.Map.{keys_of}
-use Rattle.xb_words.specs.Table.{with_value}
+use Rattle.std.specs.Prelude.{◌≡◌, ℕ, Bool, true, false, List, Option, Some, None}
 use Rattle.xb_values.specs.Buffers.{Buffer}
-use Rattle.xb_values.specs.Prefixes.{Prefix, prefix_cmp}
+use Rattle.xb_values.specs.Prefixes.{Prefix}
 use Rattle.bgp_fsm.specs.Sessions.{Owned}
 use Rattle.bgp_write.specs.Pending.{Formed, pending}
-use Rattle.xbgp_maps.specs.Mappings.{empty_maps}
 use Rattle.spk_model.specs.declared.host.Setup.{Setup}
-use Rattle.spk_model.specs.Speakers.{local_route}
 use Rattle.spk_model.specs.Choosing.{Trace}
-use Rattle.spk_split.specs.Routing.{Routing, Routed, Tables, no_tables, tables_of, with_tables, settle_all}
-use Rattle.spk_split.specs.Turning.{known_prefixes}
+use Rattle.spk_model.specs.Routing.{Routing, Routed, tables_of, with_tables, settle_all}
+use Rattle.spk_model.specs.Turning.{known_prefixes}
 
 -- routes went on as a definition says, whatever chains ran before
 abbrev pub Reroutes : (Routed → Routed) → Routing → Routing → Type 0
 Reroutes step old new = (trace : Trace) → (step (record { routing = old; trace = trace })).routing ≡ new
 
--- the routes before the first event
-abbrev pub start_routing : Setup → Routing
-start_routing setup = record {
-  best = fold (λ b p. with_value prefix_cmp b p (record { source = 0; route = local_route setup.config })) []
-    (setup.config).networks;
-  engine = record { maps = empty_maps (map (λ m. m.shape) (setup.manifest).maps); faults = [] };
-  tables = map (λ _. no_tables) (setup.config).peers;
-}
-
 -- every known prefix is decided and exported again
-abbrev pub rescan : Setup → List Owned → Routed → Routed
-rescan setup sessions t = settle_all setup sessions t (known_prefixes setup t.routing)
+abbrev pub rescanned : Setup → List Owned → Routed → Routed
+rescanned setup sessions t = settle_all setup sessions t (known_prefixes setup t.routing)
 
 -- the prefixes that wait to be told to a peer
 abbrev pub waiting : Routing → ℕ → List Prefix

@@ -1,6 +1,7 @@
 //! The sessions' half of a host, over any routes' half.
 #![tactic(auto)]
 
+mod links;
 mod routes;
 
 pub use routes::Routes;
