@@ -21,9 +21,9 @@ marked_partial e =
 abbrev pub to_external : Route → Side → Route
 to_external route local =
     without_attribute (without_attribute
-      (with_attribute (with_attribute route AS_PATH WELL_KNOWN (path_octets as_width (prepend local.asn (path_of route))))
-        NEXT_HOP WELL_KNOWN (four_octets local.address))
-      LOCAL_PREF) MULTI_EXIT_DISC
+    (with_attribute (with_attribute route AS_PATH WELL_KNOWN (path_octets as_width (prepend local.asn (path_of route))))
+    NEXT_HOP WELL_KNOWN (four_octets local.address))
+    LOCAL_PREF) MULTI_EXIT_DISC
 
 abbrev pub to_internal : Route → ℕ → Route
 to_internal route default =

@@ -1,9 +1,10 @@
-pub mod Carry
-pub mod Speakers
+pub mod Sources
 pub mod Choosing
-pub mod Turns
-pub mod Events
+pub mod Tournaments
+pub mod Carry
+pub mod Exporting
+pub mod Routing
+pub mod Turning
 pub mod Reports
 pub mod Readers
 pub mod Playing
-pub mod Laws
