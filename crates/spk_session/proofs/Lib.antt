@@ -1,1 +1,4 @@
 pub mod LinkLemmas
+pub mod Following
+pub mod ActLemmas
+pub mod Dropping

@@ -2,6 +2,7 @@
 #![tactic(auto)]
 
 mod links;
+mod react;
 mod routes;
 
 pub use routes::Routes;
