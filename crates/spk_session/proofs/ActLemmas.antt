@@ -15,6 +15,7 @@ use Rattle.bgp_fsm.specs.declared.Stimulus.{Stimulus}
 use Rattle.bgp_fsm.specs.Sessions.{Owned, row}
 use Rattle.bgp_write.specs.Written.{wide_open_message, keepalive_message, notice_message}
 use Rattle.xbgp_config.specs.Configs.{Config}
+use Rattle.xbgp_config.specs.declared.limits.TheConstants.{MAX_PEERS}
 use Rattle.spk_model.specs.declared.host.Setup.{Setup}
 use Rattle.spk_model.specs.Choosing.{Trace}
 use Rattle.spk_model.specs.Sources.{session_of}
@@ -23,8 +24,8 @@ use Rattle.spk_model.specs.Turning.{Turn, control, act, react, set_session}
 use Rattle.spk_session.specs.declared.links.Links.{Links}
 use Rattle.spk_session.specs.Routed.{Reroutes}
 use Rattle.spk_session.specs.Meaning.{Core, core_of, speaker_of, turn_of, kept, Does, IsReady, IsEven, HasPeer}
-use Rattle.spk_session.specs.Acting.{sends, closed, closes, is_close, flags_after, reacted, reaction_of}
-use Rattle.spk_session.proofs.Following.{does_push}
+use Rattle.spk_session.specs.Acting.{sends, closed, closes, is_close, flags_after}
+use Rattle.spk_session.proofs.Following.{does_push, does_then, does_same}
 use Rattle.spk_session.proofs.Dropping.{kept-set}
 
 sends_even : (l : Links) (p : ℕ) (piece : List ℕ) → IsEven l → IsEven (sends p piece l)
@@ -192,21 +193,6 @@ flags-push p xs ys x first second third is one two =
     two ∙ ap (flags_after p (is_close x)) one ∙ flags_twice p (closes xs) (is_close x) first
     ∙ ap (λ (b : Bool). flags_after p b first) (sym (ap closes is ∙ closes-append xs x))
 
--- the session of a peer, as it is read and written
-pub session_set : (l : Links) (p : ℕ) (own new : Owned) (what : Stimulus) → HasPeer l p
-    → own ≡ slice_index_or (l.sessions).items (p - 1) own
-    → new ≡ record own { session = (row own.own own.session l.clock what).session }
-    → slice_set (l.sessions).items (p - 1) new ≡ reacted l p what
-session_set l p own new what peer is after =
-    let inside : p - 1 < length (l.sessions).items = omega (arith, peer.0, peer.1) in
-    let same : own ≡ session_of (l.sessions).items p =
-    is ∙ get_or_default (l.sessions).items (p - 1) own (session_of [] p) inside in
-    ap (λ (x : Owned). slice_set (l.sessions).items (p - 1) x) after
-    ∙ ap
-      (λ (x : Owned). slice_set (l.sessions).items (p - 1)
-          (record x { session = (row x.own x.session l.clock what).session }))
-      same
-
 -- the acts up to one, and with it
 pub acts_more : (acts : List Act) (i : ℕ) (x : Act) → slice_get acts i ≡ Some x → take (i + 1) acts ≡ take i acts ++ x ∷ []
 acts_more acts i x is =
@@ -226,3 +212,65 @@ all_acts acts i far = take_all i acts far
 pub same_peer : (l new : Links) (p : ℕ) → new.sessions ≡ l.sessions → HasPeer l p → HasPeer new p
 same_peer l new p same peer =
     (peer.0, subst (λ (ss : Vec Owned Global). p ≤ length ss.items) (sym same) peer.1)
+
+-- the session of a peer is another
+abbrev pub with_session : Links → ℕ → Owned → Links
+with_session l p new = record l { sessions = with_item l.sessions (p - 1) new }
+
+pub session_ready : (setup : Setup) (routing : Routing) (l : Links) (p : ℕ) (new : Owned)
+    → IsReady (core_of setup routing l) → IsReady (core_of setup routing (with_session l p new))
+session_ready setup routing l p new ready =
+    let long : length (slice_set (l.sessions).items (p - 1) new) ≡ length (l.sessions).items =
+    length-set (l.sessions).items (p - 1) new in
+    record {
+      even = record {
+        few = subst (λ (n : ℕ). n ≤ MAX_PEERS) (sym long) (ready.even).few;
+        rests = (ready.even).rests ∙ sym long;
+        flags = (ready.even).flags ∙ sym long;
+        room = (ready.even).room;
+      };
+      count = long ∙ ready.count;
+    }
+
+session_done : (setup : Setup) (routing : Routing) (l : Links) (p : ℕ) (new : Owned) → IsReady (core_of setup routing l)
+    → Does (λ s t. set_session t p new) (core_of setup routing l) (core_of setup routing (with_session l p new))
+session_done setup routing l p new ready = record {
+  ready = session_ready setup routing l p new ready;
+  setup = refl;
+  speaker = λ waits trace. refl;
+  outputs = λ waits trace. refl;
+}
+
+reacts_so : (setup : Setup) (t : Turn) (p : ℕ) (what : Stimulus) (extra : List ℕ) (own new : Owned) (acts : List Act)
+    → own ≡ session_of (t.speaker).sessions p → acts ≡ (row own.own own.session (t.speaker).clock what).acts
+    → new ≡ record own { session = (row own.own own.session (t.speaker).clock what).session }
+    → fold (act setup p extra) (set_session t p new) acts ≡ react setup t p what extra
+unfolding react
+reacts_so setup t p what extra own new acts same does after =
+    ap (λ (xs : List Act). fold (act setup p extra) (set_session t p new) xs) does
+    ∙ ap
+      (λ (x : Owned). fold (act setup p extra) (set_session t p x) (row own.own own.session (t.speaker).clock what).acts)
+      after
+    ∙ ap
+      (λ (x : Owned). fold (act setup p extra)
+          (set_session t p (record x { session = (row x.own x.session (t.speaker).clock what).session }))
+          (row x.own x.session (t.speaker).clock what).acts)
+      same
+
+-- a session reacted, and its acts were done
+pub react_done : (setup : Setup) (routing : Routing) (l : Links) (p : ℕ) (what : Stimulus) (extra : List ℕ)
+    (own new : Owned) (acts : List Act) (c : Core)
+    → IsReady (core_of setup routing l) → HasPeer l p → own ≡ slice_index_or (l.sessions).items (p - 1) own
+    → acts ≡ (row own.own own.session l.clock what).acts
+    → new ≡ record own { session = (row own.own own.session l.clock what).session }
+    → Does (λ s t. fold (act s p extra) t acts) (core_of setup routing (with_session l p new)) c
+    → Does (λ s t. react s t p what extra) (core_of setup routing l) c
+react_done setup routing l p what extra own new acts c ready peer is does after d =
+    let inside : p - 1 < length (l.sessions).items = omega (arith, peer.0, peer.1) in
+    let same : own ≡ session_of (l.sessions).items p =
+    is ∙ get_or_default (l.sessions).items (p - 1) own (session_of [] p) inside in
+    let a = core_of setup routing l in
+    does_same (λ s t. fold (act s p extra) (set_session t p new) acts) (λ s t. react s t p what extra) a c
+    (λ waits trace. reacts_so setup (turn_of waits trace a) p what extra own new acts same does after)
+    (does_then (λ s t. set_session t p new) (λ s t. fold (act s p extra) t acts) a
+      (core_of setup routing (with_session l p new)) c (session_done setup routing l p new ready) d)

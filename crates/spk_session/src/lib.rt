@@ -2,6 +2,7 @@
 #![tactic(auto)]
 
 mod links;
+mod messages;
 mod react;
 mod routes;
 
