@@ -24,7 +24,7 @@ use Rattle.spk_model.specs.Turning.{Turn, control, act, react, set_session}
 use Rattle.spk_session.specs.declared.links.Links.{Links}
 use Rattle.spk_session.specs.Routed.{Reroutes}
 use Rattle.spk_session.specs.Meaning.{Core, core_of, speaker_of, turn_of, kept, Does, IsReady, IsEven, HasPeer}
-use Rattle.spk_session.specs.Acting.{sends, closed, closes, is_close, flags_after}
+use Rattle.spk_session.specs.Acting.{sends, closed, closes, is_close, flags_after, reacted, reaction_of}
 use Rattle.spk_session.proofs.Following.{does_push, does_then, does_same}
 use Rattle.spk_session.proofs.Dropping.{kept-set}
 
@@ -257,6 +257,12 @@ reacts_so setup t p what extra own new acts same does after =
           (row x.own x.session (t.speaker).clock what).acts)
       same
 
+own_read : (l : Links) (p : ℕ) (own : Owned) → HasPeer l p → own ≡ slice_index_or (l.sessions).items (p - 1) own
+    → own ≡ session_of (l.sessions).items p
+own_read l p own peer is =
+    let inside : p - 1 < length (l.sessions).items = omega (arith, peer.0, peer.1) in
+    is ∙ get_or_default (l.sessions).items (p - 1) own (session_of [] p) inside
+
 -- a session reacted, and its acts were done
 pub react_done : (setup : Setup) (routing : Routing) (l : Links) (p : ℕ) (what : Stimulus) (extra : List ℕ)
     (own new : Owned) (acts : List Act) (c : Core)
@@ -266,11 +272,30 @@ pub react_done : (setup : Setup) (routing : Routing) (l : Links) (p : ℕ) (what
     → Does (λ s t. fold (act s p extra) t acts) (core_of setup routing (with_session l p new)) c
     → Does (λ s t. react s t p what extra) (core_of setup routing l) c
 react_done setup routing l p what extra own new acts c ready peer is does after d =
-    let inside : p - 1 < length (l.sessions).items = omega (arith, peer.0, peer.1) in
-    let same : own ≡ session_of (l.sessions).items p =
-    is ∙ get_or_default (l.sessions).items (p - 1) own (session_of [] p) inside in
+    let same : own ≡ session_of (l.sessions).items p = own_read l p own peer is in
     let a = core_of setup routing l in
     does_same (λ s t. fold (act s p extra) (set_session t p new) acts) (λ s t. react s t p what extra) a c
     (λ waits trace. reacts_so setup (turn_of waits trace a) p what extra own new acts same does after)
     (does_then (λ s t. set_session t p new) (λ s t. fold (act s p extra) t acts) a
       (core_of setup routing (with_session l p new)) c (session_done setup routing l p new ready) d)
+
+-- the sessions after one of them reacted
+pub reacted_so : (l : Links) (p : ℕ) (what : Stimulus) (own new : Owned) (now : ℕ) → HasPeer l p
+    → own ≡ slice_index_or (l.sessions).items (p - 1) own → now ≡ l.clock
+    → new ≡ record own { session = (row own.own own.session now what).session }
+    → slice_set (l.sessions).items (p - 1) new ≡ reacted l p what
+reacted_so l p what own new now peer is clock after =
+    ap (λ (x : Owned). slice_set (l.sessions).items (p - 1) x)
+      (after ∙ ap (λ (n : ℕ). record own { session = (row own.own own.session n what).session }) clock)
+    ∙ ap
+      (λ (x : Owned). slice_set (l.sessions).items (p - 1)
+          (record x { session = (row x.own x.session l.clock what).session }))
+      (own_read l p own peer is)
+
+-- the acts of one of them that reacted
+pub acts_so : (l : Links) (p : ℕ) (what : Stimulus) (own : Owned) (now : ℕ) (acts : List Act) → HasPeer l p
+    → own ≡ slice_index_or (l.sessions).items (p - 1) own → now ≡ l.clock
+    → acts ≡ (row own.own own.session now what).acts → acts ≡ (reaction_of l p what).acts
+acts_so l p what own now acts peer is clock does =
+    does ∙ ap (λ (n : ℕ). (row own.own own.session n what).acts) clock
+    ∙ ap (λ (x : Owned). (row x.own x.session l.clock what).acts) (own_read l p own peer is)

@@ -1,9 +1,11 @@
 //! The sessions' half of a host, over any routes' half.
 #![tactic(auto)]
 
+mod clock;
 mod links;
 mod messages;
 mod react;
 mod routes;
+mod tell;
 
 pub use routes::Routes;

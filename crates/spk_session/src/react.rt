@@ -1,9 +1,10 @@
 // What the session of a peer does at a stimulus.
-ghost use Rattle.std.specs.Prelude.{◌≡◌, ◌≤◌, fold, length, OnOk};
+ghost use Rattle.std.specs.Prelude.{◌≡◌, ◌≤◌, fold, length, true, OnOk};
 ghost use Rattle.xb_wire.specs.declared.numbers.TheConstants.{MAX_NOTICE_DATA};
+ghost use Rattle.bgp_fsm.specs.Sessions.{is_live};
 ghost use Rattle.spk_model.specs.Turning.{act as act_of, react as react_to};
-ghost use Rattle.spk_session.specs.Meaning.{core_of, Does, HasPeer, IsReady};
-ghost use Rattle.spk_session.specs.Acting.{closes, flags_after, is_close, reacted, reaction_of};
+ghost use Rattle.spk_session.specs.Meaning.{core_of, state_in, Does, HasPeer, IsCalm, IsReady};
+ghost use Rattle.spk_session.specs.Acting.{closes, flags_after, is_close, reacted, reaction_of, IsLeft};
 
 use crate::links::Links;
 use crate::routes::Routes;
@@ -92,6 +93,8 @@ pub(crate) fn react<R: Routes>(
     ensures sessions { OnOk result (links.new.sessions.items ≡ reacted links.old peer what) }
     ensures flags { OnOk result (links.new.dropped.items
         ≡ flags_after peer (closes (reaction_of links.old peer what).acts) links.old.dropped.items) }
+    ensures left { IsCalm links.old → is_live (state_in links.old peer) ≡ true
+        → OnOk result (IsLeft peer links.old links.new) }
 {
     let acts = links.sessions[peer as usize - 1].on(u64::from(links.clock), what);
     act_all(alloc, links, routes, peer, &acts, extra)
