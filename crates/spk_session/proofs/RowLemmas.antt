@@ -11,7 +11,7 @@ use Rattle.bgp_fsm.specs.declared.Act.{Act}
 use Rattle.bgp_fsm.specs.declared.Act.TheVariants.{SendNotice, Close}
 use Rattle.bgp_fsm.specs.Sessions.{Session, Owned, Reaction, row, row_at, close, close_with, down_if_up, held_on, stay, is_live}
 use Rattle.xb_wire.specs.declared.numbers.TheConstants.{CEASE, FSM_ERROR, HOLD_TIMER_EXPIRED, UNSPECIFIC}
-use Rattle.spk_model.specs.Sources.{session_of}
+use Rattle.spk_model.specs.Sources.{session_of, is_wide}
 use Rattle.spk_session.specs.declared.links.Links.{Links}
 use Rattle.spk_session.specs.Meaning.{HasPeer, IsEven, IsCalm, flag_of, state_in}
 use Rattle.spk_session.specs.Acting.{is_close, closes, flags_after, reaction_of, reacted, LeftBy, IsLeft}
@@ -147,3 +147,12 @@ left_after l new p what even peer calm live is flags =
     let after = session_after l new p what peer is in
     left_by (closes (reaction_of l p what).acts) l new p even peer calm
     (ap (λ (x : Owned). closes (reaction_of l p what).acts || is_live (x.session).state) after ∙ goes) flags
+
+-- an UPDATE in Established leaves the form of the session
+pub wide_after : (l new : Links) (p : ℕ) → HasPeer l p → state_in l p ≡ Established
+    → (new.sessions).items ≡ reacted l p stimuli.Update
+    → is_wide (new.sessions).items p ≡ is_wide (l.sessions).items p
+wide_after l new p peer is goes =
+    let s : Owned = session_of (l.sessions).items p in
+    ap (λ (x : Owned). (x.session).wide) (session_after l new p stimuli.Update peer goes)
+    ∙ ap (λ (r : Reaction). (r.session).wide) (update_stays s.own s.session l.clock is)

@@ -74,3 +74,189 @@ fn refuse<R: Routes>(
     };
     react(alloc, links, routes, peer, fault, notice.extra)
 }
+
+/// Refuses a header.
+pub(crate) fn refuse_header<R: Routes>(
+    alloc: Global,
+    links: &mut Links,
+    routes: &mut R,
+    peer: u32,
+    fault: HeaderFault,
+) -> Result<(), AllocError>
+    requires ready { IsReady (core_of (R.built_from routes.old) (R.routing routes.old) links.old) }
+    requires peer { HasPeer links.old peer }
+    requires live { is_live (state_in links.old peer) ≡ true }
+    ensures does { OnOk result (Does
+        (λ setup t. turning.refuse setup t peer (notification_of fault))
+        (core_of (R.built_from routes.old) (R.routing routes.old) links.old)
+        (core_of (R.built_from routes.new) (R.routing routes.new) links.new)) }
+    ensures closed { OnOk result (links.new.dropped.items ≡ slice_set links.old.dropped.items (peer - 1) true) }
+{
+    let code = MESSAGE_HEADER_ERROR;
+    match fault {
+        HeaderFault::Marker => {
+            let subcode = CONNECTION_NOT_SYNCHRONIZED;
+            let extra = &[];
+            refuse(alloc, links, routes, peer, &Notice { code, subcode, extra })
+        }
+        HeaderFault::Length(len) => {
+            let subcode = BAD_MESSAGE_LENGTH;
+            let field = len.to_be_bytes();
+            let extra = &field;
+            refuse(alloc, links, routes, peer, &Notice { code, subcode, extra })
+        }
+        HeaderFault::Kind(kind) => {
+            let subcode = BAD_MESSAGE_TYPE;
+            let field = [kind];
+            let extra = &field;
+            refuse(alloc, links, routes, peer, &Notice { code, subcode, extra })
+        }
+    }
+}
+
+// Takes an OPEN in OpenSent.
+fn judged_open<R: Routes>(
+    alloc: Global,
+    links: &mut Links,
+    routes: &mut R,
+    peer: u32,
+    body: &[u8],
+) -> Result<(), AllocError>
+    requires ready { IsReady (core_of (R.built_from routes.old) (R.routing routes.old) links.old) }
+    requires peer { HasPeer links.old peer }
+    requires calm { IsCalm links.old }
+    requires live { is_live (state_in links.old peer) ≡ true }
+    requires least { PARAMETERS ≤ length body.now }
+    ensures does { OnOk result (Does
+        (λ setup t. turning.judged_open setup t peer body.now
+            (judge_open4 body.now (entry_of setup.config peer).asn))
+        (core_of (R.built_from routes.old) (R.routing routes.old) links.old)
+        (core_of (R.built_from routes.new) (R.routing routes.new) links.new)) }
+    ensures left { OnOk result (IsLeft peer links.old links.new) }
+{
+    let want = OpenWant {
+        peer_as: asn_of(routes.config(), peer),
+    };
+    match read_open4(body, &want) {
+        Ok(seen) => {
+            let good = Stimulus::OpenGood {
+                hold: seen.hold,
+                id: seen.id,
+                wide: seen.wide,
+            };
+            react(alloc, links, routes, peer, good, &[])
+        }
+        Err(notice) => refuse(alloc, links, routes, peer, &notice),
+    }
+}
+
+// Takes an OPEN.
+fn open_in<R: Routes>(
+    alloc: Global,
+    links: &mut Links,
+    routes: &mut R,
+    peer: u32,
+    body: &[u8],
+) -> Result<(), AllocError>
+    requires ready { IsReady (core_of (R.built_from routes.old) (R.routing routes.old) links.old) }
+    requires peer { HasPeer links.old peer }
+    requires calm { IsCalm links.old }
+    requires live { is_live (state_in links.old peer) ≡ true }
+    requires least { PARAMETERS ≤ length body.now }
+    ensures does { OnOk result (Does
+        (λ setup t. turning.open_in setup t peer body.now (turning.state_of t peer))
+        (core_of (R.built_from routes.old) (R.routing routes.old) links.old)
+        (core_of (R.built_from routes.new) (R.routing routes.new) links.new)) }
+    ensures left { OnOk result (IsLeft peer links.old links.new) }
+{
+    match links.sessions[peer as usize - 1].state() {
+        State::OpenSent => judged_open(alloc, links, routes, peer, body),
+        State::Idle | State::Connect | State::OpenConfirm | State::Established => {
+            react(alloc, links, routes, peer, Stimulus::OpenLate, &[])
+        }
+    }
+}
+
+// Takes an UPDATE in Established.
+fn judged_update<R: Routes>(
+    alloc: Global,
+    links: &mut Links,
+    routes: &mut R,
+    peer: u32,
+    body: &[u8],
+) -> Result<(), AllocError>
+    requires ready { IsReady (core_of (R.built_from routes.old) (R.routing routes.old) links.old) }
+    requires peer { HasPeer links.old peer }
+    requires calm { IsCalm links.old }
+    requires live { is_live (state_in links.old peer) ≡ true }
+    requires established { state_in links.old peer ≡ Established }
+    requires short { length body.now ≤ MAX_BODY }
+    ensures does { OnOk result (Does
+        (λ setup t. turning.judged_update setup t peer body.now
+            (judge (width_of (is_wide (t.speaker).sessions peer)) body.now))
+        (core_of (R.built_from routes.old) (R.routing routes.old) links.old)
+        (core_of (R.built_from routes.new) (R.routing routes.new) links.new)) }
+    ensures left { OnOk result (IsLeft peer links.old links.new) }
+{
+    let wide = links.sessions[peer as usize - 1].wide();
+    if let Some(notice) = fault_of_update(body, wide) {
+        return refuse(alloc, links, routes, peer, &notice);
+    }
+    react(alloc, links, routes, peer, Stimulus::Update, &[])?;
+    routes.update(alloc, &links.sessions, links.clock, peer, body)
+}
+
+// Takes an UPDATE.
+fn update_in<R: Routes>(
+    alloc: Global,
+    links: &mut Links,
+    routes: &mut R,
+    peer: u32,
+    body: &[u8],
+) -> Result<(), AllocError>
+    requires ready { IsReady (core_of (R.built_from routes.old) (R.routing routes.old) links.old) }
+    requires peer { HasPeer links.old peer }
+    requires calm { IsCalm links.old }
+    requires live { is_live (state_in links.old peer) ≡ true }
+    requires short { length body.now ≤ MAX_BODY }
+    ensures does { OnOk result (Does
+        (λ setup t. turning.update_in setup t peer body.now (turning.state_of t peer))
+        (core_of (R.built_from routes.old) (R.routing routes.old) links.old)
+        (core_of (R.built_from routes.new) (R.routing routes.new) links.new)) }
+    ensures left { OnOk result (IsLeft peer links.old links.new) }
+{
+    match links.sessions[peer as usize - 1].state() {
+        State::Established => judged_update(alloc, links, routes, peer, body),
+        State::Idle | State::Connect | State::OpenSent | State::OpenConfirm => {
+            react(alloc, links, routes, peer, Stimulus::Update, &[])
+        }
+    }
+}
+
+/// Takes a message of a live session.
+pub(crate) fn message_in<R: Routes>(
+    alloc: Global,
+    links: &mut Links,
+    routes: &mut R,
+    peer: u32,
+    kind: u8,
+    body: &[u8],
+) -> Result<(), AllocError>
+    requires ready { IsReady (core_of (R.built_from routes.old) (R.routing routes.old) links.old) }
+    requires peer { HasPeer links.old peer }
+    requires calm { IsCalm links.old }
+    requires live { is_live (state_in links.old peer) ≡ true }
+    requires sized { HasMessageLength kind (HEADER + length body.now) }
+    ensures does { OnOk result ((message : List ℕ) → message_kind message ≡ kind → message_body message ≡ body.now
+        → Does (λ setup t. turning.message_in setup t peer message)
+        (core_of (R.built_from routes.old) (R.routing routes.old) links.old)
+        (core_of (R.built_from routes.new) (R.routing routes.new) links.new)) }
+    ensures left { OnOk result (IsLeft peer links.old links.new) }
+{
+    match kind {
+        OPEN => open_in(alloc, links, routes, peer, body),
+        UPDATE => update_in(alloc, links, routes, peer, body),
+        NOTIFICATION => react(alloc, links, routes, peer, Stimulus::Notified, &[]),
+        _ => react(alloc, links, routes, peer, Stimulus::Keepalive, &[]),
+    }
+}
