@@ -1,8 +1,8 @@
 -- What a message does, by its type and its fault.
 use Rattle.std.proofs.Common.{◌≡◌, ◌≤◌, ◌<◌, ◌-◌, refl, ap, subst, sym, ◌∙◌, ℕ, List, [], Option, Some, None, length, arith, inl, inr, ◌⊎◌}
-use Rattle.std.specs.Prelude.{slice_index_or}
+use Rattle.std.specs.Prelude.{slice_index_or, ◌==◌, if◌then◌else◌}
 use Rattle.std.proofs.lemmas.List.{get_or_default}
-use Rattle.xb_wire.specs.Messages.{Notification}
+use Rattle.xb_wire.specs.Messages.{Notification, message_kind, message_body}
 use Rattle.bgp_attr.specs.Paths.{width_of}
 use Rattle.bgp_check.specs.Judgement.{judge}
 use Rattle.bgp_open.specs.Opens.{judge_open4}
@@ -12,7 +12,7 @@ use Rattle.bgp_fsm.specs.Sessions.{Owned}
 use Rattle.bgp_fsm.specs.declared.Stimulus.TheVariants as stimuli
 use Rattle.spk_model.specs.declared.host.Setup.{Setup}
 use Rattle.spk_model.specs.Sources.{session_of, entry_of, is_wide}
-use Rattle.spk_model.specs.Turning.{Turn, react, refuse, open_in, judged_open, update_in, judged_update, state_of}
+use Rattle.spk_model.specs.Turning.{Turn, message_in, react, refuse, open_in, judged_open, update_in, judged_update, state_of}
 use Rattle.spk_session.specs.declared.links.Links.{Links}
 use Rattle.spk_session.specs.Meaning.{Core, Does, HasPeer, state_in, turn_of}
 use Rattle.spk_session.proofs.Following.{does_same}
@@ -104,3 +104,26 @@ updated_early p body a b s is other d =
     does_same (λ s t. react s t p stimuli.Update []) (λ s t. update_in s t p body (state_of t p)) a b
     (λ waits trace. early_so a.setup (turn_of waits trace a) p body s other
       ∙ ap (λ (x : State). update_in a.setup (turn_of waits trace a) p body x) (sym is)) d
+
+-- what a message does, by its type and its body
+abbrev pub by_kind : Setup → ℕ → ℕ → List ℕ → Turn → Turn
+by_kind setup p kind body t =
+    if kind == 1 then open_in setup t p body (state_of t p)
+    else if kind == 2 then update_in setup t p body (state_of t p)
+    else if kind == 3 then react setup t p stimuli.Notified []
+    else react setup t p stimuli.Keepalive []
+
+message_so : (setup : Setup) (t : Turn) (p kind : ℕ) (body message : List ℕ) → message_kind message ≡ kind
+    → message_body message ≡ body → by_kind setup p kind body t ≡ message_in setup t p message
+unfolding message_in
+message_so setup t p kind body message is same =
+    ap (λ (k : ℕ). by_kind setup p k body t) (sym is)
+    ∙ ap (λ (x : List ℕ). by_kind setup p (message_kind message) x t) (sym same)
+
+-- a message of a type with a body
+pub message_taken : (p kind type : ℕ) (body : List ℕ) (a b : Core) → kind ≡ type
+    → Does (λ s t. by_kind s p type body t) a b → (message : List ℕ) → message_kind message ≡ kind
+    → message_body message ≡ body → Does (λ s t. message_in s t p message) a b
+message_taken p kind type body a b is d message kinds bodies =
+    does_same (λ s t. by_kind s p type body t) (λ s t. message_in s t p message) a b
+    (λ waits trace. message_so a.setup (turn_of waits trace a) p type body message (kinds ∙ is) bodies) d
