@@ -4,3 +4,7 @@ pub mod ActLemmas
 pub mod Dropping
 pub mod RowLemmas
 pub mod MessageLemmas
+pub mod TakeLemmas
+pub mod FaultLemmas
+pub mod FrontLemmas
+pub mod LoopLemmas

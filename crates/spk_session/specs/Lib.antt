@@ -1,3 +1,4 @@
 pub mod Routed
 pub mod Meaning
 pub mod Acting
+pub mod Taking

@@ -7,5 +7,6 @@ mod messages;
 mod react;
 mod routes;
 mod tell;
+mod wire;
 
 pub use routes::Routes;
