@@ -8,3 +8,4 @@ pub mod TakeLemmas
 pub mod FaultLemmas
 pub mod FrontLemmas
 pub mod LoopLemmas
+pub mod HostLemmas

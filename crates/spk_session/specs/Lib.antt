@@ -2,3 +2,4 @@ pub mod Routed
 pub mod Meaning
 pub mod Acting
 pub mod Taking
+pub mod Hosting

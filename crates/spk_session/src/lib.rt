@@ -2,6 +2,7 @@
 #![tactic(auto)]
 
 mod clock;
+mod host;
 mod links;
 mod messages;
 mod react;
@@ -9,4 +10,5 @@ mod routes;
 mod tell;
 mod wire;
 
+pub use host::Sessions;
 pub use routes::Routes;
