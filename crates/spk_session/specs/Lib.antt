@@ -3,3 +3,4 @@ pub mod Meaning
 pub mod Acting
 pub mod Taking
 pub mod Hosting
+pub mod Starting

@@ -7,6 +7,7 @@ mod links;
 mod messages;
 mod react;
 mod routes;
+mod start;
 mod tell;
 mod wire;
 
