@@ -6,6 +6,7 @@ use Rattle.xb_wire.specs.Messages.{message_size, front_fault}
 use Rattle.bgp_fsm.specs.Sessions.{is_live}
 use Rattle.spk_session.specs.Meaning.{Core, IsReady, IsCalm, state_in}
 use Rattle.spk_session.specs.Taking.{Ends, Comes, IsDrained, IsOpen, IsClosed, IsTaken, IsStill, IsAll, AllBy, Receives}
+use Rattle.spk_session.proofs.Dropping.{none_left}
 use Rattle.spk_session.proofs.TakeLemmas.{ends_here, received}
 
 -- what was to come at first is what is to come now
@@ -23,9 +24,6 @@ came_then p w v u a b c one two tail end last e = one tail end last (two tail en
 
 pub open_then : (p : ℕ) (a b c : Core) → IsOpen p a b → IsOpen p b c → IsOpen p a c
 open_then p a b c one two = record { ready = two.ready; calm = two.calm; setup = two.setup ∙ one.setup; live = two.live }
-
-pub none_left : IsDrained []
-none_left = record { none = refl; good = refl; short = omega arith }
 
 pub all_still : (p : ℕ) (w v u : List ℕ) (a b c : Core) → IsOpen p a b → Came p w a v b → IsStill v b u c → IsAll p w a u c
 all_still p w v u a b c o came s =

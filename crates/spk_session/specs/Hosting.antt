@@ -1,6 +1,6 @@
 -- What a host keeps between two events, and what an event does to it (this project's own).
 use Rattle.std.specs.Prelude.{◌≡◌, ℕ, List, [], map, length}
-use Rattle.std.specs.List.{AllByRecursion}
+use Rattle.std.specs.List.{All}
 use Rattle.xb_domain.specs.declared.output.Packing.{Packing}
 use Rattle.xb_domain.specs.Events.{Event}
 use Rattle.bgp_frame.specs.Waiting.{Waiting}
@@ -15,7 +15,7 @@ waits_of frames = map (λ f. f.waits) frames
 
 -- no message and no fault can be taken from a buffer
 abbrev pub AreDrained : List (List ℕ) → Type 0
-AreDrained waits = AllByRecursion IsDrained waits
+AreDrained waits = All IsDrained waits
 
 -- between two events there is a buffer for each peer, from which nothing can be taken, and no output
 pub record IsSound (frames : List Waiting) (c : Core) : Type 0 where
