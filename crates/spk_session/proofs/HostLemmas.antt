@@ -235,3 +235,16 @@ pub outputs_stepped : (rule : Packing) (e : Event) (frames frames' : List Waitin
 unfolding event
 outputs_stepped rule e frames frames' a b sound t =
     sym (t.outputs []) ∙ ap (λ (u : Turn). u.outputs) (quiet rule e frames a sound)
+
+-- there is still a buffer for each peer
+pub count_after : (rule : Packing) (e : Event) (frames frames' last : List Waiting) (a b : Core) → IsSound frames a
+    → Turns rule e frames a frames' b → length last ≡ length frames'
+    → length last ≡ length ((b.links).sessions).items
+count_after rule e frames frames' last a b sound t same =
+    same ∙ t.count ∙ sound.count ∙ (sound.ready).count ∙ ap (λ (s : Setup). length (s.config).peers) (sym t.setup)
+    ∙ sym (t.ready).count
+
+-- no flag is up, by the sessions of the links before
+pub calm_after : (l old : Links) → (l.dropped).items ≡ replicate (length (l.sessions).items) false
+    → l ≡ record old { dropped = l.dropped } → (l.dropped).items ≡ replicate (length (old.sessions).items) false
+calm_after l old calm same = calm ∙ ap (λ (x : Links). replicate (length (x.sessions).items) false) same

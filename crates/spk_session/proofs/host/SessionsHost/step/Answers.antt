@@ -1,19 +1,44 @@
-use Rattle.std.proofs.Common.{rules, ◌≡◌, ◌≤◌, [], length, OnOk, IfOk, List, ℕ, ◌+◌, ◌-◌, ◌*◌, ◌<◌, ◌/◌, ◌%◌, Bool, true, false, nat_eq, nat_lt, ◌∷◌, ◌++◌, slice_index_or, slice_set, bit_and, bit_or, Fits, w8, w32, w64, Bor, MutBor}
+use Rattle.std.proofs.Common.{◌≡◌, ◌∙◌, sym, ap, List, ◌++◌}
+use Rattle.xb_domain.specs.Outputs.{Output}
 use Rattle.xb_domain.specs.Views.{event_view}
-use Rattle.spk_model.specs.Readers.{AreConfigured}
-use Rattle.spk_model.specs.Reports.{is_drained as drained_so}
-use Rattle.spk_session.specs.Meaning.{core_of, kept, speaker_of, HasPeer, IsCalm, IsEven, IsReady}
-use Rattle.spk_session.specs.Hosting.{shown, waits_of, IsSound, Turns}
+use Rattle.spk_session.specs.declared.links.Links.{Links}
+use Rattle.spk_session.specs.Meaning.{core_of}
+use Rattle.spk_session.proofs.HostLemmas.{sound_after, shown_after, speaker_stepped, outputs_stepped, count_after}
+use Rattle.spk_session.proofs.HostLemmas.{calm_after}
 use Rattle.spk_session.proofs.host.SessionsHost.step.Goals as goal
 
--- src/host.rt:131:9
 pub invariant_of-result : goal.invariant_of-result
-invariant_of-result g c = ?
+invariant_of-result g c =
+    let a = core_of (g.R.Routes.built_from c.args.self.routes) (g.R.Routes.routing c.args.self.routes) c.args.self.links in
+    let b = core_of (g.R.Routes.built_from c.turn.new.routes) (g.R.Routes.routing c.turn.new.routes) c.turn.new.links in
+    let t = c.in_ok-turn.ensures in
+    let l = c.drop_closed.new.links in
+    record {
+      sound = sound_after b c.turn.new.frames.items c.drop_closed.new.frames.items l l.dropped c.append.new.other t.ready
+        c.drop_closed.ensures.waits t.drained
+        (count_after g.R.Routes.RULE (event_view c.args.event) c.args.self.frames.items c.turn.new.frames.items
+          c.drop_closed.new.frames.items a b c.args.self.sound t c.drop_closed.ensures.count)
+        (calm_after l c.turn.new.links c.drop_closed.ensures.calm c.drop_closed.ensures.same)
+        c.drop_closed.ensures.same c.in_ok-append.ensures.emptied;
+    }
 
--- src/host.rt:117:5
 pub returns-clause-speaker : goal.returns-clause-speaker
-returns-clause-speaker g c = ?
+returns-clause-speaker g c =
+    let a = core_of (g.R.Routes.built_from c.args.self.routes) (g.R.Routes.routing c.args.self.routes) c.args.self.links in
+    let b = core_of (g.R.Routes.built_from c.turn.new.routes) (g.R.Routes.routing c.turn.new.routes) c.turn.new.links in
+    let l = c.drop_closed.new.links in
+    shown_after b c.turn.new.frames.items c.drop_closed.new.frames.items l l.dropped c.append.new.other
+      c.drop_closed.ensures.waits
+      (calm_after l c.turn.new.links c.drop_closed.ensures.calm c.drop_closed.ensures.same) c.drop_closed.ensures.same
+    ∙ speaker_stepped g.R.Routes.RULE (event_view c.args.event) c.args.self.frames.items c.turn.new.frames.items a b
+      c.args.self.sound c.in_ok-turn.ensures
 
--- src/host.rt:117:5
 pub returns-clause-outputs : goal.returns-clause-outputs
-returns-clause-outputs g c = ?
+returns-clause-outputs g c =
+    let a = core_of (g.R.Routes.built_from c.args.self.routes) (g.R.Routes.routing c.args.self.routes) c.args.self.links in
+    let b = core_of (g.R.Routes.built_from c.turn.new.routes) (g.R.Routes.routing c.turn.new.routes) c.turn.new.links in
+    c.in_ok-append.ensures.moved
+    ∙ ap (λ (os : List Output). c.args.out.now ++ os)
+      (ap (λ (l : Links). l.outputs) c.drop_closed.ensures.same
+        ∙ outputs_stepped g.R.Routes.RULE (event_view c.args.event) c.args.self.frames.items c.turn.new.frames.items a b
+          c.args.self.sound c.in_ok-turn.ensures)
