@@ -9,3 +9,4 @@ pub mod FaultLemmas
 pub mod FrontLemmas
 pub mod LoopLemmas
 pub mod HostLemmas
+pub mod StartLemmas
