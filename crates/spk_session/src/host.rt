@@ -30,6 +30,16 @@ pub struct Sessions<R: Routes> {
     ghost sound: { IsSound frames.items (core_of (R.built_from routes) (R.routing routes) links) },
 }
 
+impl<R: Routes> Sessions<R> {
+    /// The half that keeps routes, as contracts of the host see it.
+    pub fn routes(&self) -> &R
+        ensures setup { R.built_from result.now ≡ ⟦<Sessions<R> as Host>⟧.built_from self.now }
+        ensures routing { R.routing result.now ≡ (⟦<Sessions<R> as Host>⟧.speaker self.now).routing }
+    {
+        &self.routes
+    }
+}
+
 // Drops the octets of the peers whose transport was closed.
 fn drop_closed(links: &mut Links, frames: &mut Vec<Frames>)
     requires even { IsEven links.old }
