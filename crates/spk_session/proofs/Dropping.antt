@@ -68,9 +68,9 @@ kept_drained_at (false ∷ ds) (w ∷ waits) all zero h = let first : 0 < length
 kept_drained_at (d ∷ ds) (w ∷ waits) all (suc i) h =
     let less : i < length (kept ds waits) = omega (arith, h) in
     kept_drained_at ds waits
-      (λ k inside. let more : suc k < length (w ∷ waits) = omega (arith, inside) in all (suc k) more) i less
+    (λ k inside. let more : suc k < length (w ∷ waits) = omega (arith, inside) in all (suc k) more) i less
 
 pub kept_drained : (ds : List Bool) (waits : List (List ℕ)) → AreDrained waits → AreDrained (kept ds waits)
 kept_drained ds waits all =
     All-from_get_or IsDrained (kept ds waits) []
-      (kept_drained_at ds waits (λ i inside. All-get_or IsDrained waits i [] inside all))
+    (kept_drained_at ds waits (λ i inside. All-get_or IsDrained waits i [] inside all))

@@ -71,7 +71,7 @@ calm_again a b ds setup first ready flags =
 pub does_front : (a b : Core) (p n kind : ℕ) (w body : List ℕ) → message_kind (take n w) ≡ kind
     → body ≡ message_body (take n w)
     → ((message : List ℕ) → message_kind message ≡ kind → message_body message ≡ body
-      → Does (λ setup t. message_in setup t p message) a b)
+    → Does (λ setup t. message_in setup t p message) a b)
     → Does (λ setup t. message_in setup t p (take n w)) a b
 does_front a b p n kind w body kinds bodies does = does (take n w) kinds (sym bodies)
 
@@ -100,7 +100,7 @@ closed_by_message a b ds p n w w' ready calm peer live is d left flag down gone 
       calm = calm_again a b ds d.setup ready d.ready after;
       gone = gone;
       comes = λ tail.
-        message_comes a b ds p n (w ++ tail) [] calm live (message_size_is_stable w tail n is) (does_take a b p n w tail is d)
+          message_comes a b ds p n (w ++ tail) [] calm live (message_size_is_stable w tail n is) (does_take a b p n w tail is d)
           (λ waits. gone_same (length ((a.links).sessions).items) (p - 1) ((a.links).dropped).items ((b.links).dropped).items ds.items waits (drop n (w ++ tail)) i (ready.even).flags calm up after) (omega arith);
     }
 
@@ -115,8 +115,8 @@ closed_by_fault a b ds p f w w' ready calm peer live is d up down gone =
       calm = calm_again a b ds d.setup ready d.ready after;
       gone = gone;
       comes = λ tail.
-        let behind : front_fault (w ++ tail) ≡ Some f = fault_stable w tail f is in
-        fault_comes a b ds p f (w ++ tail) calm live (fault_none (w ++ tail) f behind) behind d
+          let behind : front_fault (w ++ tail) ≡ Some f = fault_stable w tail f is in
+          fault_comes a b ds p f (w ++ tail) calm live (fault_none (w ++ tail) f behind) behind d
           (λ waits. gone_same (length ((a.links).sessions).items) (p - 1) ((a.links).dropped).items ((b.links).dropped).items ds.items waits (w ++ tail) i (ready.even).flags calm up after);
     }
 
@@ -133,9 +133,9 @@ open_by_message a b ds p n w w' ready calm peer live is d left flag down rest =
       open' = record { ready = ready_again a b ds d.setup ready d.ready after calm; calm = calm_again a b ds d.setup ready d.ready after; setup = d.setup; live = stays.1 };
       less = omega (arith, long, length-drop n w, size.0, size.1);
       comes = λ tail.
-        let same : drop n (w ++ tail) ≡ w' ++ tail = drop-append-le n w tail size.1 ∙ ap (λ (x : List ℕ). x ++ tail) (sym rest) in
-        let as_long : length (drop n (w ++ tail)) ≡ length (w' ++ tail) = ap length same in
-        message_comes a b ds p n (w ++ tail) (w' ++ tail) calm live (message_size_is_stable w tail n is) (does_take a b p n w tail is d)
+          let same : drop n (w ++ tail) ≡ w' ++ tail = drop-append-le n w tail size.1 ∙ ap (λ (x : List ℕ). x ++ tail) (sym rest) in
+          let as_long : length (drop n (w ++ tail)) ≡ length (w' ++ tail) = ap length same in
+          message_comes a b ds p n (w ++ tail) (w' ++ tail) calm live (message_size_is_stable w tail n is) (does_take a b p n w tail is d)
           (λ waits. ap (λ (x : List ℕ). kept ((b.links).dropped).items (slice_set waits (p - 1) x)) same ∙ ap (λ (l : List Bool). kept l (slice_set waits (p - 1) (w' ++ tail))) (stays.0 ∙ calm ∙ sym after))
           (omega (arith, as_long));
     }

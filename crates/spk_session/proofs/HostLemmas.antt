@@ -84,7 +84,7 @@ by_rescan rule setup setup' routing routing' l sessions ready same all goes = re
   };
   setup = same;
   speaker = λ waits trace. ap (λ (r : Routing). speaker_of waits (core_of setup r l))
-    (ap (λ (ss : List Owned). (rescanned setup ss (record { routing = routing; trace = trace })).routing) (sym all)
+      (ap (λ (ss : List Owned). (rescanned setup ss (record { routing = routing; trace = trace })).routing) (sym all)
       ∙ goes trace);
   outputs = λ waits trace. refl;
 }
@@ -113,7 +113,7 @@ by_octets_at rule p piece frames a b f f' sound peer is r =
     omega (arith, length-map frames (λ (x : Waiting). x.waits), sound.count, peer.0, peer.1) in
     let before : slice_set (waits_of frames) (p - 1) f.waits ≡ waits_of frames =
     ap (slice_set (waits_of frames) (p - 1)) (wait_read frames (p - 1) f is)
-      ∙ set-get_or (waits_of frames) (p - 1) f.waits in
+    ∙ set-get_or (waits_of frames) (p - 1) f.waits in
     let after : waits_of (slice_set frames (p - 1) f') ≡ slice_set (waits_of frames) (p - 1) f'.waits =
     map-set (λ (x : Waiting). x.waits) frames (p - 1) f' in
     record {
@@ -122,12 +122,12 @@ by_octets_at rule p piece frames a b f f' sound peer is r =
       count = length-set frames (p - 1) f';
       drained = subst AreDrained (sym after) (All-set IsDrained (waits_of frames) (p - 1) f'.waits r.drained sound.drained);
       speaker = λ trace.
-        ap (λ (ws : List (List ℕ)). (octets_in a.setup (turn_of ws trace a) p piece).speaker) (sym before)
-        ∙ r.speaker (waits_of frames) trace inside
-        ∙ ap (λ (ws : List (List ℕ)). speaker_of ws b) (sym after);
+          ap (λ (ws : List (List ℕ)). (octets_in a.setup (turn_of ws trace a) p piece).speaker) (sym before)
+          ∙ r.speaker (waits_of frames) trace inside
+          ∙ ap (λ (ws : List (List ℕ)). speaker_of ws b) (sym after);
       outputs = λ trace.
-        ap (λ (ws : List (List ℕ)). (octets_in a.setup (turn_of ws trace a) p piece).outputs) (sym before)
-        ∙ r.outputs (waits_of frames) trace inside;
+          ap (λ (ws : List (List ℕ)). (octets_in a.setup (turn_of ws trace a) p piece).outputs) (sym before)
+          ∙ r.outputs (waits_of frames) trace inside;
     }
 
 -- octets that came go into one buffer
@@ -153,7 +153,7 @@ dropped_on flags i flag waits frames frames' f inside is raised so_far after emp
     ∙ ap (λ (w : List ℕ). slice_set (waits_of frames) i w) empty
     ∙ ap (λ (ws : List (List ℕ)). slice_set ws i []) so_far
     ∙ sym (ap (λ (d : Bool). kept_at d i (kept (take i flags) waits))
-        (sym (get_or_default flags i flag false inside) ∙ sym is ∙ raised))
+    (sym (get_or_default flags i flag false inside) ∙ sym is ∙ raised))
     ∙ sym (kept-next flags i waits inside)
 
 -- a buffer is left because its flag is not up
@@ -163,7 +163,7 @@ pub dropped_off : (flags : List Bool) (i : ℕ) (flag : Bool) (waits : List (Lis
 dropped_off flags i flag waits frames inside is lowered so_far =
     so_far
     ∙ sym (ap (λ (d : Bool). kept_at d i (kept (take i flags) waits))
-        (sym (get_or_default flags i flag false inside) ∙ sym is ∙ lowered))
+    (sym (get_or_default flags i flag false inside) ∙ sym is ∙ lowered))
     ∙ sym (kept-next flags i waits inside)
 
 -- the host after the flags were looked at, and the outputs taken away
@@ -174,15 +174,15 @@ pub shown_after : (b : Core) (first after : List Waiting) (l : Links) (ds : Vec 
 shown_after b first after l ds os waits calm is =
     ap (λ (x : Links). shown after (core_of b.setup b.routing (record x { outputs = os }))) is
     ∙ ap
-      (λ (ws : List (List ℕ)). record {
-          clock = (b.links).clock;
-          sessions = ((b.links).sessions).items;
-          rests = ((b.links).rests).items;
-          waits = ws;
-          routing = b.routing;
-        })
-      (ap (λ (flags : List Bool). kept flags (waits_of after)) calm
-        ∙ kept-calm (length ((b.links).sessions).items) (waits_of after) ∙ waits)
+    (λ (ws : List (List ℕ)). record {
+      clock = (b.links).clock;
+      sessions = ((b.links).sessions).items;
+      rests = ((b.links).rests).items;
+      waits = ws;
+      routing = b.routing;
+    })
+    (ap (λ (flags : List Bool). kept flags (waits_of after)) calm
+    ∙ kept-calm (length ((b.links).sessions).items) (waits_of after) ∙ waits)
 
 sound_at : (b : Core) (first after : List Waiting) (ds : Vec Bool Global)
     → IsReady b → waits_of after ≡ kept ((b.links).dropped).items (waits_of first) → AreDrained (waits_of first)
@@ -213,14 +213,14 @@ pub sound_after : (b : Core) (first after : List Waiting) (l : Links) (ds : Vec 
 sound_after b first after l ds os ready waits drained count calm is none =
     subst (λ (x : Links). IsSound after (core_of b.setup b.routing (record x { outputs = os }))) (sym is)
     (subst (λ (x : List Output). IsSound after (core_of b.setup b.routing (record b.links { dropped = ds; outputs = x })))
-      (sym none) (sound_at b first after ds ready waits drained count calm))
+    (sym none) (sound_at b first after ds ready waits drained count calm))
 
 -- an event of a host without outputs
 quiet : (rule : Packing) (e : Event) (frames : List Waiting) (a : Core) → IsSound frames a
     → turn rule a.setup (turn_of (waits_of frames) [] a) e ≡ turn rule a.setup (before (shown frames a)) e
 quiet rule e frames a sound =
     ap (λ (os : List Output). turn rule a.setup (record { speaker = shown frames a; outputs = os; trace = [] }) e)
-      sound.silent
+    sound.silent
 
 pub speaker_stepped : (rule : Packing) (e : Event) (frames frames' : List Waiting) (a b : Core) → IsSound frames a
     → Turns rule e frames a frames' b

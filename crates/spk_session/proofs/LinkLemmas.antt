@@ -23,4 +23,4 @@ sent_after_rest l p rest left piece first second even peer is cleared one two =
     let same : rest ≡ rest_in l p = is ∙ get_or_default (l.rests).items (p - 1) rest [] (rest_inside l p even peer) in
     ap (λ (x : List ℕ). record l { rests = with_item l.rests (p - 1) x; outputs = second }) cleared
     ∙ ap (λ (os : List Output). record l { rests = with_item l.rests (p - 1) []; outputs = os })
-      (two ∙ ap (λ (os : List Output). os ++ put p piece) (one ∙ ap (λ (x : List ℕ). l.outputs ++ put p x) same))
+    (two ∙ ap (λ (os : List Output). os ++ put p piece) (one ∙ ap (λ (x : List ℕ). l.outputs ++ put p x) same))

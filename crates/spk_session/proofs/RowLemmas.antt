@@ -115,12 +115,12 @@ update_stays own s now is = ap (λ (x : State). row_at x own s now stimuli.Updat
 -- the session of a peer after it was written
 pub session_after : (l new : Links) (p : ℕ) (what : Stimulus) → HasPeer l p → (new.sessions).items ≡ reacted l p what
     → session_of (new.sessions).items p
-      ≡ record (session_of (l.sessions).items p) { session = (reaction_of l p what).session }
+    ≡ record (session_of (l.sessions).items p) { session = (reaction_of l p what).session }
 session_after l new p what peer is =
     let inside : p - 1 < length (l.sessions).items = omega (arith, peer.0, peer.1) in
     ap (λ (ss : List Owned). session_of ss p) is
     ∙ get_or-set_same (l.sessions).items (p - 1)
-      (record (session_of (l.sessions).items p) { session = (reaction_of l p what).session }) (session_of [] p) inside
+    (record (session_of (l.sessions).items p) { session = (reaction_of l p what).session }) (session_of [] p) inside
 
 left_by : (b : Bool) (l new : Links) (p : ℕ) → IsEven l → HasPeer l p → IsCalm l
     → (b || is_live (state_in new p)) ≡ true → (new.dropped).items ≡ flags_after p b (l.dropped).items → IsLeft p l new

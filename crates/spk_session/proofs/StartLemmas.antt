@@ -68,21 +68,21 @@ start_shown setup routing hold count l frames all own s made routes =
     let peers = (setup.config).peers in
     let sessions : (l.sessions).items ≡ map (λ _. own_session (setup.config).hold) peers =
     s.sessions ∙ ap (λ (h : ℕ). replicate count (own_session h)) own
-      ∙ splat_is_map peers count (own_session (setup.config).hold) (sym all) in
+    ∙ splat_is_map peers count (own_session (setup.config).hold) (sym all) in
     let rests : (l.rests).items ≡ map (λ _. []) peers = s.rests ∙ splat_is_map peers count [] (sym all) in
     let waits : kept (l.dropped).items (waits_of frames) ≡ map (λ _. []) peers =
     ap (λ (ds : List Bool). kept ds (waits_of frames)) s.flags ∙ kept-calm count (waits_of frames)
-      ∙ ap waits_of made ∙ waits_made count ∙ splat_is_map peers count [] (sym all) in
+    ∙ ap waits_of made ∙ waits_made count ∙ splat_is_map peers count [] (sym all) in
     ap (λ (r : Routing). shown frames (core_of setup r l)) routes
     ∙ ap (λ (n : ℕ). speaker_with setup n (l.sessions).items (l.rests).items (kept (l.dropped).items (waits_of frames)))
-      s.clock
+    s.clock
     ∙ ap (λ (xs : List Owned). speaker_with setup 0 xs (l.rests).items (kept (l.dropped).items (waits_of frames)))
-      sessions
+    sessions
     ∙ ap
-      (λ (xs : List (List ℕ)). speaker_with setup 0 (map (λ _. own_session (setup.config).hold) peers) xs
-          (kept (l.dropped).items (waits_of frames)))
-      rests
+    (λ (xs : List (List ℕ)). speaker_with setup 0 (map (λ _. own_session (setup.config).hold) peers) xs
+    (kept (l.dropped).items (waits_of frames)))
+    rests
     ∙ ap
-      (λ (xs : List (List ℕ)). speaker_with setup 0 (map (λ _. own_session (setup.config).hold) peers)
-          (map (λ _. []) peers) xs)
-      waits
+    (λ (xs : List (List ℕ)). speaker_with setup 0 (map (λ _. own_session (setup.config).hold) peers)
+    (map (λ _. []) peers) xs)
+    waits

@@ -86,7 +86,7 @@ still_turn c waits p (suc m) left trace calm inside none good =
     let w : wait_of t p ≡ left = wait_there c waits p left trace calm inside in
     live_or_not c.setup (is_live (state_of t p)) (λ u. front_in c.setup (λ v. take_turns c.setup m v p) u p (message_size (wait_of u p)) (front_fault (wait_of u p))) t
     (ap (λ (o : Option ℕ). front_in c.setup (λ v. take_turns c.setup m v p) t p o (front_fault (wait_of t p))) (ap message_size w ∙ none)
-      ∙ ap (λ (o : Option Notification). front_in c.setup (λ v. take_turns c.setup m v p) t p None o) (ap front_fault w ∙ good))
+    ∙ ap (λ (o : Option Notification). front_in c.setup (λ v. take_turns c.setup m v p) t p None o) (ap front_fault w ∙ good))
 
 no_turns : (c : Core) (t : Turn) (p : ℕ) → take_turns c.setup 0 t p ≡ t
 unfolding take_turns

@@ -63,7 +63,7 @@ reaction_of l p what =
 abbrev pub reacted : Links → ℕ → Stimulus → List Owned
 reacted l p what =
     slice_set (l.sessions).items (p - 1)
-      (record (session_of (l.sessions).items p) { session = (reaction_of l p what).session })
+    (record (session_of (l.sessions).items p) { session = (reaction_of l p what).session })
 
 -- after a message either the flag of the peer is up, or no flag changed and the session is live
 abbrev pub LeftBy : Bool → ℕ → Links → Links → Type 0

@@ -31,7 +31,7 @@ shown frames c = speaker_of (waits_of frames) c
 
 -- buffers and both halves went on as the definition says of an event, if the flags are looked at
 pub record Turns (rule : Packing) (event : Event) (frames : List Waiting) (old : Core) (frames' : List Waiting)
-  (new : Core) : Type 0 where
+    (new : Core) : Type 0 where
   pub ready : IsReady new
   pub setup : new.setup ≡ old.setup
   pub count : length frames' ≡ length frames

@@ -124,12 +124,7 @@ impl<R: Routes> Host for Sessions<R> {
         })
     }
 
-    fn step(
-        self,
-        alloc: Global,
-        event: Event<'_>,
-        out: &mut Outputs,
-    ) -> Result<Self, AllocError> {
+    fn step(self, alloc: Global, event: Event<'_>, out: &mut Outputs) -> Result<Self, AllocError> {
         let Sessions {
             mut frames,
             mut links,

@@ -28,9 +28,9 @@ acts-preserved g c =
     let i = c.acts.i in
     record {
       does = act_then acts i c.get.result c.args.peer c.args.extra.now a b d c.get.ensures c.acts.invariant.does
-        c.in_ok-act.ensures.does;
+          c.in_ok-act.ensures.does;
       sessions = c.in_ok-act.ensures.sessions ∙ c.acts.invariant.sessions;
       flags = flags-push c.args.peer (take i acts) (take (i + 1) acts) c.get.result c.args.links.now.dropped.items
-        c.acts.links.dropped.items c.act.new.links.dropped.items (acts_more acts i c.get.result c.get.ensures)
-        c.acts.invariant.flags c.in_ok-act.ensures.flags;
+          c.acts.links.dropped.items c.act.new.links.dropped.items (acts_more acts i c.get.result c.get.ensures)
+          c.acts.invariant.flags c.in_ok-act.ensures.flags;
     }

@@ -15,11 +15,11 @@ invariant_of-result g c =
     let l = c.drop_closed.new.links in
     record {
       sound = sound_after b c.turn.new.frames.items c.drop_closed.new.frames.items l l.dropped c.append.new.other t.ready
-        c.drop_closed.ensures.waits t.drained
-        (count_after g.R.Routes.RULE (event_view c.args.event) c.args.self.frames.items c.turn.new.frames.items
+          c.drop_closed.ensures.waits t.drained
+          (count_after g.R.Routes.RULE (event_view c.args.event) c.args.self.frames.items c.turn.new.frames.items
           c.drop_closed.new.frames.items a b c.args.self.sound t c.drop_closed.ensures.count)
-        (calm_after l c.turn.new.links c.drop_closed.ensures.calm c.drop_closed.ensures.same)
-        c.drop_closed.ensures.same c.in_ok-append.ensures.emptied;
+          (calm_after l c.turn.new.links c.drop_closed.ensures.calm c.drop_closed.ensures.same)
+          c.drop_closed.ensures.same c.in_ok-append.ensures.emptied;
     }
 
 pub returns-clause-speaker : goal.returns-clause-speaker
@@ -28,10 +28,10 @@ returns-clause-speaker g c =
     let b = core_of (g.R.Routes.built_from c.turn.new.routes) (g.R.Routes.routing c.turn.new.routes) c.turn.new.links in
     let l = c.drop_closed.new.links in
     shown_after b c.turn.new.frames.items c.drop_closed.new.frames.items l l.dropped c.append.new.other
-      c.drop_closed.ensures.waits
-      (calm_after l c.turn.new.links c.drop_closed.ensures.calm c.drop_closed.ensures.same) c.drop_closed.ensures.same
+    c.drop_closed.ensures.waits
+    (calm_after l c.turn.new.links c.drop_closed.ensures.calm c.drop_closed.ensures.same) c.drop_closed.ensures.same
     ∙ speaker_stepped g.R.Routes.RULE (event_view c.args.event) c.args.self.frames.items c.turn.new.frames.items a b
-      c.args.self.sound c.in_ok-turn.ensures
+    c.args.self.sound c.in_ok-turn.ensures
 
 pub returns-clause-outputs : goal.returns-clause-outputs
 returns-clause-outputs g c =
@@ -39,6 +39,6 @@ returns-clause-outputs g c =
     let b = core_of (g.R.Routes.built_from c.turn.new.routes) (g.R.Routes.routing c.turn.new.routes) c.turn.new.links in
     c.in_ok-append.ensures.moved
     ∙ ap (λ (os : List Output). c.args.out.now ++ os)
-      (ap (λ (l : Links). l.outputs) c.drop_closed.ensures.same
-        ∙ outputs_stepped g.R.Routes.RULE (event_view c.args.event) c.args.self.frames.items c.turn.new.frames.items a b
-          c.args.self.sound c.in_ok-turn.ensures)
+    (ap (λ (l : Links). l.outputs) c.drop_closed.ensures.same
+    ∙ outputs_stepped g.R.Routes.RULE (event_view c.args.event) c.args.self.frames.items c.turn.new.frames.items a b
+    c.args.self.sound c.in_ok-turn.ensures)
