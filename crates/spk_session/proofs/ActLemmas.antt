@@ -1,5 +1,6 @@
 -- What an act of a session does.
-use Rattle.std.proofs.Common.{◌≡◌, ◌≤◌, ◌<◌, ◌-◌, refl, sym, ◌∙◌, ap, subst, ℕ, zero, suc, Bool, true, false, List, [], ◌∷◌, ◌++◌, ◌+◌, fold, take, length, Some, arith, Vec}
+use Rattle.std.proofs.Common.{◌≡◌, ◌≤◌, ◌<◌, ◌-◌, refl, sym, ◌∙◌, ap, subst, ℕ, Bool, true, false, List}
+use Rattle.std.proofs.Common.{[], ◌∷◌, ◌++◌, ◌+◌, fold, take, length, Some, arith, Vec}
 use Rattle.std.specs.Prelude.{◌||◌, slice_index_or}
 use Rattle.std.specs.List.{slice_set}
 use Rattle.std.specs.Vec.{with_item}
@@ -17,13 +18,12 @@ use Rattle.bgp_write.specs.Written.{wide_open_message, keepalive_message, notice
 use Rattle.xbgp_config.specs.Configs.{Config}
 use Rattle.xbgp_config.specs.declared.limits.TheConstants.{MAX_PEERS}
 use Rattle.spk_model.specs.declared.host.Setup.{Setup}
-use Rattle.spk_model.specs.Choosing.{Trace}
 use Rattle.spk_model.specs.Sources.{session_of}
 use Rattle.spk_model.specs.Routing.{Routing, export_all, lose}
 use Rattle.spk_model.specs.Turning.{Turn, control, act, react, set_session}
 use Rattle.spk_session.specs.declared.links.Links.{Links}
 use Rattle.spk_session.specs.Routed.{Reroutes}
-use Rattle.spk_session.specs.Meaning.{Core, core_of, speaker_of, turn_of, kept, Does, IsReady, IsEven, HasPeer}
+use Rattle.spk_session.specs.Meaning.{Core, core_of, speaker_of, turn_of, Does, IsReady, IsEven, HasPeer}
 use Rattle.spk_session.specs.Acting.{sends, closed, closes, is_close, flags_after, reacted, reaction_of}
 use Rattle.spk_session.proofs.Following.{does_push, does_then, does_same}
 use Rattle.spk_session.proofs.Dropping.{kept-set}
@@ -73,7 +73,8 @@ pub keepalive_sent : (setup : Setup) (routing : Routing) (l new : Links) (p : �
 unfolding act
 keepalive_sent setup routing l new p extra ready is =
     let d = message_sent setup routing l p keepalive_message ready in
-    subst (λ (x : Links). Does (λ s t. act s p extra t SendKeepalive) (core_of setup routing l) (core_of setup routing x))
+    subst (λ (x : Links). Does (λ s t. act s p extra t SendKeepalive) (core_of setup routing l)
+    (core_of setup routing x))
     (sym is)
     (record { ready = d.ready; setup = refl; speaker = d.speaker; outputs = d.outputs })
 
@@ -120,7 +121,8 @@ up_done setup setup' routing routing' l sessions os p extra ready is same all go
   outputs = λ waits trace. sym is;
 }
 
-pub down_done : (setup setup' : Setup) (routing routing' : Routing) (l : Links) (sessions : List Owned) (os : List Output)
+pub down_done : (setup setup' : Setup) (routing routing' : Routing) (l : Links) (sessions : List Owned)
+    (os : List Output)
     (p : ℕ) (extra : List ℕ)
     → IsReady (core_of setup routing l) → os ≡ l.outputs ++ went_down p ∷ [] → setup' ≡ setup
     → sessions ≡ (l.sessions).items
@@ -143,7 +145,8 @@ pub close_done : (setup : Setup) (routing : Routing) (l new : Links) (p : ℕ) (
 unfolding act
 close_done setup routing l new p extra ready peer is =
     let within : p - 1 < length (l.dropped).items = omega (arith, (ready.even).flags, peer.0, peer.1) in
-    subst (λ (x : Links). Does (λ s t. act s p extra t Close) (core_of setup routing l) (core_of setup routing x)) (sym is)
+    subst (λ (x : Links). Does (λ s t. act s p extra t Close) (core_of setup routing l) (core_of setup routing x))
+    (sym is)
     (record {
       ready = record {
         even = record {
@@ -179,9 +182,11 @@ or_assoc false b c = refl
 -- one more act
 pub closes-append : (xs : List Act) (x : Act) → closes (xs ++ x ∷ []) ≡ (closes xs || is_close x)
 closes-append [] x = or_false (is_close x)
-closes-append (y ∷ xs) x = ap (λ (b : Bool). is_close y || b) (closes-append xs x) ∙ or_assoc (is_close y) (closes xs) (is_close x)
+closes-append (y ∷ xs) x = ap (λ (b : Bool). is_close y || b) (closes-append xs x)
+    ∙ or_assoc (is_close y) (closes xs) (is_close x)
 
-flags_twice : (p : ℕ) (a b : Bool) (flags : List Bool) → flags_after p b (flags_after p a flags) ≡ flags_after p (a || b) flags
+flags_twice : (p : ℕ) (a b : Bool) (flags : List Bool)
+    → flags_after p b (flags_after p a flags) ≡ flags_after p (a || b) flags
 flags_twice p true true flags = set-set flags (p - 1) true true
 flags_twice p true false flags = refl
 flags_twice p false b flags = refl
@@ -194,7 +199,8 @@ flags-push p xs ys x first second third is one two =
     ∙ ap (λ (b : Bool). flags_after p b first) (sym (ap closes is ∙ closes-append xs x))
 
 -- the acts up to one, and with it
-pub acts_more : (acts : List Act) (i : ℕ) (x : Act) → slice_get acts i ≡ Some x → take (i + 1) acts ≡ take i acts ++ x ∷ []
+pub acts_more : (acts : List Act) (i : ℕ) (x : Act) → slice_get acts i ≡ Some x
+    → take (i + 1) acts ≡ take i acts ++ x ∷ []
 acts_more acts i x is =
     take_more acts i x (slice_get_within acts i x is)
     ∙ ap (λ (y : Act). take i acts ++ y ∷ []) (get_or_from_slice_get acts i x x is)

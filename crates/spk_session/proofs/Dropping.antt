@@ -1,5 +1,6 @@
 -- What waits where some of it is to be dropped.
-use Rattle.std.proofs.Common.{◌≡◌, ◌≤◌, ◌<◌, ◌-◌, refl, sym, ◌∙◌, ap, subst, ℕ, zero, suc, Bool, true, false, List, [], ◌∷◌, length, take, ◌+◌, add-one, arith, replicate}
+use Rattle.std.proofs.Common.{◌≡◌, ◌<◌, refl, sym, ◌∙◌, ap, ℕ, zero, suc, Bool, true, false, List}
+use Rattle.std.proofs.Common.{[], ◌∷◌, length, take, ◌+◌, add-one, arith, replicate}
 use Rattle.std.specs.Prelude.{slice_index_or}
 use Rattle.std.specs.List.{slice_set}
 use Rattle.std.proofs.lemmas.List.Elements.{All-get_or, All-from_get_or}
@@ -16,12 +17,14 @@ kept-calm zero waits = refl
 kept-calm (suc n) [] = refl
 kept-calm (suc n) (w ∷ waits) = ap (λ (l : List (List ℕ)). w ∷ l) (kept-calm n waits)
 
-pub kept-set : (ds : List Bool) (i : ℕ) (waits : List (List ℕ)) → i < length ds → kept (slice_set ds i true) waits ≡ slice_set (kept ds waits) i []
+pub kept-set : (ds : List Bool) (i : ℕ) (waits : List (List ℕ)) → i < length ds
+    → kept (slice_set ds i true) waits ≡ slice_set (kept ds waits) i []
 kept-set [] i waits h = absurd (omega (arith, h))
 kept-set (d ∷ ds) zero [] h = refl
 kept-set (d ∷ ds) zero (w ∷ waits) h = refl
 kept-set (d ∷ ds) (suc i) [] h = refl
-kept-set (d ∷ ds) (suc i) (w ∷ waits) h = let less : i < length ds = omega (arith, h) in ap (λ (l : List (List ℕ)). kept_one d w ∷ l) (kept-set ds i waits less)
+kept-set (d ∷ ds) (suc i) (w ∷ waits) h = let less : i < length ds = omega (arith, h) in
+    ap (λ (l : List (List ℕ)). kept_one d w ∷ l) (kept-set ds i waits less)
 
 -- octets at an index are dropped if a flag is up
 abbrev pub kept_at : Bool → ℕ → List (List ℕ) → List (List ℕ)

@@ -1,5 +1,6 @@
 -- What an event does to buffers and both halves.
-use Rattle.std.proofs.Common.{◌≡◌, ◌≤◌, ◌<◌, ◌-◌, ◌+◌, refl, sym, ◌∙◌, ap, subst, ℕ, zero, suc, Bool, true, false, List, [], ◌∷◌, ◌++◌, length, map, take, Some, None, arith, replicate, Vec}
+use Rattle.std.proofs.Common.{◌≡◌, ◌≤◌, ◌<◌, ◌-◌, ◌+◌, refl, sym, ◌∙◌, ap, subst, ℕ, Bool, true, false}
+use Rattle.std.proofs.Common.{List, [], length, take, Some, None, arith, replicate, Vec}
 use Rattle.std.specs.Prelude.{slice_index_or}
 use Rattle.std.specs.List.{slice_set}
 use Rattle.std.specs.declared.alloc.Global.{Global}
@@ -13,12 +14,11 @@ use Rattle.bgp_frame.specs.Waiting.{Waiting}
 use Rattle.bgp_fsm.specs.Sessions.{Owned}
 use Rattle.bgp_fsm.specs.declared.Stimulus.TheVariants as stimuli
 use Rattle.spk_model.specs.declared.host.Setup.{Setup}
-use Rattle.spk_model.specs.Choosing.{Trace}
 use Rattle.spk_model.specs.Routing.{Routing}
 use Rattle.spk_model.specs.Turning.{Turn, turn, react, octets_in, time_to, emit, before, event}
 use Rattle.spk_session.specs.declared.links.Links.{Links}
 use Rattle.spk_session.specs.Routed.{Reroutes, rescanned}
-use Rattle.spk_session.specs.Meaning.{Core, core_of, Does, HasPeer, IsReady, kept, kept_one, speaker_of, turn_of}
+use Rattle.spk_session.specs.Meaning.{Core, core_of, Does, HasPeer, IsReady, kept, speaker_of, turn_of}
 use Rattle.spk_session.specs.Taking.{IsDrained, Receives}
 use Rattle.spk_session.specs.Hosting.{waits_of, shown, AreDrained, IsSound, Turns}
 use Rattle.spk_session.proofs.Dropping.{kept_at, kept-next, kept-calm, kept_drained}
@@ -120,7 +120,8 @@ by_octets_at rule p piece frames a b f f' sound peer is r =
       ready = r.ready;
       setup = r.setup;
       count = length-set frames (p - 1) f';
-      drained = subst AreDrained (sym after) (All-set IsDrained (waits_of frames) (p - 1) f'.waits r.drained sound.drained);
+      drained = subst AreDrained (sym after) (All-set IsDrained (waits_of frames)
+          (p - 1) f'.waits r.drained sound.drained);
       speaker = λ trace.
           ap (λ (ws : List (List ℕ)). (octets_in a.setup (turn_of ws trace a) p piece).speaker) (sym before)
           ∙ r.speaker (waits_of frames) trace inside
@@ -212,7 +213,8 @@ pub sound_after : (b : Core) (first after : List Waiting) (l : Links) (ds : Vec 
     → os ≡ [] → IsSound after (core_of b.setup b.routing (record l { outputs = os }))
 sound_after b first after l ds os ready waits drained count calm is none =
     subst (λ (x : Links). IsSound after (core_of b.setup b.routing (record x { outputs = os }))) (sym is)
-    (subst (λ (x : List Output). IsSound after (core_of b.setup b.routing (record b.links { dropped = ds; outputs = x })))
+    (subst (λ (x : List Output). IsSound after
+    (core_of b.setup b.routing (record b.links { dropped = ds; outputs = x })))
     (sym none) (sound_at b first after ds ready waits drained count calm))
 
 -- an event of a host without outputs

@@ -1,5 +1,6 @@
 -- What a message does, by its type and its fault.
-use Rattle.std.proofs.Common.{◌≡◌, ◌≤◌, ◌<◌, ◌-◌, refl, ap, subst, sym, ◌∙◌, ℕ, List, [], Option, Some, None, length, arith, inl, inr, ◌⊎◌}
+use Rattle.std.proofs.Common.{◌≡◌, ◌<◌, ◌-◌, ap, sym, ◌∙◌, ℕ, List, [], length}
+use Rattle.std.proofs.Common.{arith, inl, inr, ◌⊎◌}
 use Rattle.std.specs.Prelude.{slice_index_or, ◌==◌, if◌then◌else◌}
 use Rattle.std.proofs.lemmas.List.{get_or_default}
 use Rattle.xb_wire.specs.Messages.{Notification, message_kind, message_body}
@@ -12,7 +13,8 @@ use Rattle.bgp_fsm.specs.Sessions.{Owned}
 use Rattle.bgp_fsm.specs.declared.Stimulus.TheVariants as stimuli
 use Rattle.spk_model.specs.declared.host.Setup.{Setup}
 use Rattle.spk_model.specs.Sources.{session_of, entry_of, is_wide}
-use Rattle.spk_model.specs.Turning.{Turn, message_in, react, refuse, open_in, judged_open, update_in, judged_update, state_of}
+use Rattle.spk_model.specs.Turning.{Turn, message_in, react, refuse, open_in, judged_open, update_in, judged_update}
+use Rattle.spk_model.specs.Turning.{state_of}
 use Rattle.spk_session.specs.declared.links.Links.{Links}
 use Rattle.spk_session.specs.Meaning.{Core, Does, HasPeer, state_in, turn_of}
 use Rattle.spk_session.proofs.Following.{does_same}

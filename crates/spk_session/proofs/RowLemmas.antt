@@ -1,7 +1,7 @@
 -- What the rows of the session machine say of closing.
-use Rattle.std.proofs.Common.{◌≡◌, ◌≤◌, ◌<◌, ◌-◌, refl, sym, ◌∙◌, ap, subst, ℕ, Bool, true, false, List, [], ◌∷◌, ◌++◌, length, arith, replicate}
+use Rattle.std.proofs.Common.{◌≡◌, ◌<◌, ◌-◌, refl, sym, ◌∙◌, ap, subst, ℕ, Bool, true, false, List, [], ◌∷◌}
+use Rattle.std.proofs.Common.{◌++◌, length, arith}
 use Rattle.std.specs.Prelude.{◌||◌, slice_index_or}
-use Rattle.std.specs.List.{slice_set}
 use Rattle.std.proofs.lemmas.List.{get_or-set_same, get_or-replicate}
 use Rattle.bgp_fsm.specs.declared.State.{State}
 use Rattle.bgp_fsm.specs.declared.State.TheVariants.{Idle, Connect, OpenSent, OpenConfirm, Established}
@@ -9,7 +9,8 @@ use Rattle.bgp_fsm.specs.declared.Stimulus.{Stimulus}
 use Rattle.bgp_fsm.specs.declared.Stimulus.TheVariants as stimuli
 use Rattle.bgp_fsm.specs.declared.Act.{Act}
 use Rattle.bgp_fsm.specs.declared.Act.TheVariants.{SendNotice, Close}
-use Rattle.bgp_fsm.specs.Sessions.{Session, Owned, Reaction, row, row_at, close, close_with, down_if_up, held_on, stay, is_live}
+use Rattle.bgp_fsm.specs.Sessions.{Session, Owned, Reaction, row, row_at, close, close_with, down_if_up, held_on}
+use Rattle.bgp_fsm.specs.Sessions.{stay, is_live}
 use Rattle.xb_wire.specs.declared.numbers.TheConstants.{CEASE, FSM_ERROR, HOLD_TIMER_EXPIRED, UNSPECIFIC}
 use Rattle.spk_model.specs.Sources.{session_of, is_wide}
 use Rattle.spk_session.specs.declared.links.Links.{Links}

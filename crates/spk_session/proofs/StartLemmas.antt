@@ -1,5 +1,6 @@
 -- A host before its first event.
-use Rattle.std.proofs.Common.{◌≡◌, ◌≤◌, refl, sym, ◌∙◌, ap, subst, ℕ, zero, suc, Bool, false, List, [], ◌∷◌, length, map, arith, replicate}
+use Rattle.std.proofs.Common.{◌≡◌, ◌≤◌, refl, sym, ◌∙◌, ap, subst, ℕ, zero, suc, Bool, false, List, [], ◌∷◌, length}
+use Rattle.std.proofs.Common.{map, arith, replicate}
 use Rattle.std.proofs.lemmas.List.{length-replicate}
 use Rattle.std.proofs.lemmas.List.Elements.{All-replicate}
 use Rattle.std.proofs.lemmas.Simd.{splat_is_map}
@@ -11,7 +12,7 @@ use Rattle.spk_model.specs.declared.host.Setup.{Setup}
 use Rattle.spk_model.specs.Routing.{Routing}
 use Rattle.spk_model.specs.Turning.{Speaker, start_of, start_routing}
 use Rattle.spk_session.specs.declared.links.Links.{Links}
-use Rattle.spk_session.specs.Meaning.{core_of, kept, IsReady}
+use Rattle.spk_session.specs.Meaning.{core_of, kept}
 use Rattle.spk_session.specs.Taking.{IsDrained}
 use Rattle.spk_session.specs.Hosting.{waits_of, shown, AreDrained, IsSound}
 use Rattle.spk_session.specs.Starting.{own_session, IsStart}

@@ -6,7 +6,7 @@ use Rattle.xb_domain.specs.Events.{Event}
 use Rattle.bgp_frame.specs.Waiting.{Waiting}
 use Rattle.spk_model.specs.Choosing.{Trace}
 use Rattle.spk_model.specs.Turning.{Speaker, turn}
-use Rattle.spk_session.specs.Meaning.{Core, IsReady, IsCalm, speaker_of, turn_of, kept}
+use Rattle.spk_session.specs.Meaning.{Core, IsReady, IsCalm, speaker_of, turn_of}
 use Rattle.spk_session.specs.Taking.{IsDrained}
 
 -- the octets in the buffers of all peers

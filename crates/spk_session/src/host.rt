@@ -67,7 +67,8 @@ fn turn<R: Routes>(
 ) -> Result<(), AllocError>
     requires sound { IsSound frames.old.items (core_of (R.built_from routes.old) (R.routing routes.old) links.old) }
     requires configured { AreConfigured (R.built_from routes.old)
-        (shown frames.old.items (core_of (R.built_from routes.old) (R.routing routes.old) links.old)) (event_view event) }
+        (shown frames.old.items (core_of (R.built_from routes.old) (R.routing routes.old) links.old))
+        (event_view event) }
     ensures { OnOk result (Turns R.RULE (event_view event.entry)
         frames.old.items (core_of (R.built_from routes.old) (R.routing routes.old) links.old)
         frames.new.items (core_of (R.built_from routes.new) (R.routing routes.new) links.new)) }

@@ -1,7 +1,7 @@
-use Rattle.std.proofs.Common.{◌≡◌, sym, ap, subst, length, Some, None}
+use Rattle.std.proofs.Common.{ap, subst, length}
 use Rattle.std.proofs.lemmas.Result.{on_ok_weaker}
 use Rattle.xb_domain.specs.Views.{event_view}
-use Rattle.xb_domain.specs.Events.{Event, start, stop, up, down, octets, time, room, drain, rescan}
+use Rattle.xb_domain.specs.Events.{start, stop, up, down, time, room, drain, rescan}
 use Rattle.replay_log.specs.Lines.{IsFor}
 use Rattle.spk_session.specs.Meaning.{core_of}
 use Rattle.spk_session.proofs.Following.{on_ok_two}
@@ -27,7 +27,8 @@ returns-in-Start g c =
     let b = core_of (g.R.Routes.built_from c.react.new.routes) (g.R.Routes.routing c.react.new.routes)
     c.react.new.links in
     on_ok_weaker c.react.result
-    (λ d. turns_by rule (event_view c.args.event) (start c.in-Start.peer) frames a b c.requires.sound (ap event_view c.in-Start.is)
+    (λ d. turns_by rule (event_view c.args.event) (start c.in-Start.peer) frames a b c.requires.sound
+    (ap event_view c.in-Start.is)
     (by_start rule c.in-Start.peer a b d))
     c.react.ensures.does
 
@@ -39,7 +40,8 @@ returns-in-Stop g c =
     let b = core_of (g.R.Routes.built_from c.react-in-Stop.new.routes) (g.R.Routes.routing c.react-in-Stop.new.routes)
     c.react-in-Stop.new.links in
     on_ok_weaker c.react-in-Stop.result
-    (λ d. turns_by rule (event_view c.args.event) (stop c.in-Stop.peer) frames a b c.requires.sound (ap event_view c.in-Stop.is)
+    (λ d. turns_by rule (event_view c.args.event) (stop c.in-Stop.peer) frames a b c.requires.sound
+    (ap event_view c.in-Stop.is)
     (by_stop rule c.in-Stop.peer a b d))
     c.react-in-Stop.ensures.does
 
@@ -51,7 +53,8 @@ returns-in-Up g c =
     let b = core_of (g.R.Routes.built_from c.react-in-Up.new.routes) (g.R.Routes.routing c.react-in-Up.new.routes)
     c.react-in-Up.new.links in
     on_ok_weaker c.react-in-Up.result
-    (λ d. turns_by rule (event_view c.args.event) (up c.in-Up.peer) frames a b c.requires.sound (ap event_view c.in-Up.is)
+    (λ d. turns_by rule (event_view c.args.event) (up c.in-Up.peer) frames a b c.requires.sound
+    (ap event_view c.in-Up.is)
     (by_up rule c.in-Up.peer a b d))
     c.react-in-Up.ensures.does
 
@@ -63,7 +66,8 @@ returns-in-Down g c =
     let b = core_of (g.R.Routes.built_from c.react-in-Down.new.routes) (g.R.Routes.routing c.react-in-Down.new.routes)
     c.react-in-Down.new.links in
     on_ok_weaker c.react-in-Down.result
-    (λ d. turns_by rule (event_view c.args.event) (down c.in-Down.peer) frames a b c.requires.sound (ap event_view c.in-Down.is)
+    (λ d. turns_by rule (event_view c.args.event) (down c.in-Down.peer) frames a b c.requires.sound
+    (ap event_view c.in-Down.is)
     (by_down rule c.in-Down.peer a b d))
     c.react-in-Down.ensures.does
 
@@ -91,7 +95,8 @@ returns-in-Time g c =
     let b = core_of (g.R.Routes.built_from c.time_to.new.routes) (g.R.Routes.routing c.time_to.new.routes)
     c.time_to.new.links in
     on_ok_weaker c.time_to.result
-    (λ d. turns_by rule (event_view c.args.event) (time c.in-Time.now) frames a b c.requires.sound (ap event_view c.in-Time.is)
+    (λ d. turns_by rule (event_view c.args.event) (time c.in-Time.now) frames a b c.requires.sound
+    (ap event_view c.in-Time.is)
     (by_time rule c.in-Time.now a b d))
     c.time_to.ensures
 
@@ -103,7 +108,8 @@ returns-in-Room g c =
     let b = core_of (g.R.Routes.built_from c.emit.new.routes) (g.R.Routes.routing c.emit.new.routes)
     c.emit.new.links in
     on_ok_weaker c.emit.result
-    (λ d. turns_by rule (event_view c.args.event) (room c.in-Room.peer c.in-Room.octets) frames a b c.requires.sound (ap event_view c.in-Room.is)
+    (λ d. turns_by rule (event_view c.args.event) (room c.in-Room.peer c.in-Room.octets) frames a b c.requires.sound
+    (ap event_view c.in-Room.is)
     (by_room rule c.in-Room.peer c.in-Room.octets a b d))
     c.emit.ensures
 
@@ -115,7 +121,8 @@ returns-in-Drain g c =
     let b = core_of (g.R.Routes.built_from c.emit-in-Drain.new.routes) (g.R.Routes.routing c.emit-in-Drain.new.routes)
     c.emit-in-Drain.new.links in
     on_ok_weaker c.emit-in-Drain.result
-    (λ d. turns_by rule (event_view c.args.event) (drain c.in-Drain.peer) frames a b c.requires.sound (ap event_view c.in-Drain.is)
+    (λ d. turns_by rule (event_view c.args.event) (drain c.in-Drain.peer) frames a b c.requires.sound
+    (ap event_view c.in-Drain.is)
     (by_drain rule c.in-Drain.peer a b d))
     c.emit-in-Drain.ensures
 

@@ -1,4 +1,4 @@
-use Rattle.std.proofs.Common.{sym, ◌∙◌, ap, Bool, List, Option}
+use Rattle.std.proofs.Common.{sym, ◌∙◌, ap, Bool, List}
 use Rattle.std.specs.Option.{option_map}
 use Rattle.xb_wire.specs.Views.{notice_view}
 use Rattle.bgp_attr.specs.Paths.{width_of}

@@ -1,4 +1,4 @@
-use Rattle.std.proofs.Common.{◌≡◌, refl, arith}
+use Rattle.std.proofs.Common.{◌≡◌, arith}
 use Rattle.std.proofs.lemmas.Result.{on_ok_weaker}
 use Rattle.spk_session.specs.Meaning.{core_of}
 use Rattle.spk_session.proofs.MessageLemmas.{message_taken}
@@ -31,7 +31,8 @@ returns-in-3-clause-does g c =
 pub returns-in_default-clause-does : goal.returns-in_default-clause-does
 returns-in_default-clause-does g c =
     let a = core_of (g.R.Routes.built_from c.args.routes.now) (g.R.Routes.routing c.args.routes.now) c.args.links.now in
-    let b = core_of (g.R.Routes.built_from c.react-in_default.new.routes) (g.R.Routes.routing c.react-in_default.new.routes)
+    let b = core_of (g.R.Routes.built_from c.react-in_default.new.routes)
+    (g.R.Routes.routing c.react-in_default.new.routes)
     c.react-in_default.new.links in
     let four : c.args.kind ≡ 4 = omega (arith, c.in_default, c.requires.sized.first_kind, c.requires.sized.last_kind) in
     on_ok_weaker c.react-in_default.result (λ d. message_taken c.args.peer c.args.kind 4 c.args.body.now a b four d)

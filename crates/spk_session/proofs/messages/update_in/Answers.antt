@@ -1,4 +1,4 @@
-use Rattle.std.proofs.Common.{sym, ◌∙◌}
+use Rattle.std.proofs.Common.{◌∙◌}
 use Rattle.std.proofs.lemmas.Result.{on_ok_weaker}
 use Rattle.spk_session.specs.Meaning.{core_of}
 use Rattle.spk_session.proofs.MessageLemmas.{state_read, updated, updated_early}

@@ -1,10 +1,7 @@
-use Rattle.std.proofs.Common.{◌≡◌, ◌≤◌, refl, sym, ◌∙◌, ap, subst, fold, take, length, List, arith, ◌+◌}
-use Rattle.bgp_fsm.specs.declared.Act.{Act}
-use Rattle.spk_model.specs.Turning.{act}
-use Rattle.spk_session.specs.Meaning.{core_of, Does}
-use Rattle.spk_session.specs.Acting.{closes, flags_after}
+use Rattle.std.proofs.Common.{refl, ◌∙◌, take, ◌+◌}
+use Rattle.spk_session.specs.Meaning.{core_of}
 use Rattle.spk_session.proofs.Following.{does_nothing}
-use Rattle.spk_session.proofs.ActLemmas.{acts_more, act_then, all_acts, flags-push, same_peer}
+use Rattle.spk_session.proofs.ActLemmas.{acts_more, act_then, flags-push, same_peer}
 use Rattle.spk_session.proofs.react.act_all.Goals as goal
 
 pub acts-init : goal.acts-init

@@ -1,4 +1,5 @@
-use Rattle.std.proofs.Common.{◌≡◌, ◌≤◌, ◌<◌, ◌-◌, ◌+◌, refl, sym, ◌∙◌, ap, List, ℕ, ◌++◌, length, take, drop, arith, min}
+use Rattle.std.proofs.Common.{◌≡◌, ◌≤◌, ◌<◌, ◌-◌, sym, ◌∙◌, ap, List, ℕ, ◌++◌, length, take, arith}
+use Rattle.std.proofs.Common.{min}
 use Rattle.std.proofs.lemmas.List.{length-drop}
 use Rattle.bgp_frame.specs.declared.frames.TheConstants.{MAX_WAITING}
 use Rattle.bgp_frame.specs.Waiting.{Waiting}

@@ -1,4 +1,4 @@
-use Rattle.std.proofs.Common.{◌≡◌, ◌≤◌, ◌+◌, ◌++◌, length, drop, List, ℕ}
+use Rattle.std.proofs.Common.{◌≤◌, ◌++◌, length, drop}
 use Rattle.spk_session.specs.Meaning.{core_of}
 use Rattle.spk_session.specs.Taking.{IsOpen, IsDrained, Comes}
 use Rattle.spk_session.proofs.wire.octets_in.Given as goal

@@ -1,4 +1,4 @@
-use Rattle.std.proofs.Common.{◌≡◌, ◌≤◌, ◌+◌, refl, sym, subst, length, arith}
+use Rattle.std.proofs.Common.{subst, arith}
 use Rattle.spk_session.specs.declared.wire.Front.{Front}
 use Rattle.spk_session.specs.Meaning.{core_of}
 use Rattle.spk_session.specs.Taking.{FrontBy}

@@ -1,4 +1,4 @@
-use Rattle.std.proofs.Common.{◌≡◌, ◌≤◌, ◌+◌, ◌++◌, length, List, ℕ}
+use Rattle.std.proofs.Common.{◌≤◌, ◌+◌, ◌++◌, length, List, ℕ}
 use Rattle.bgp_frame.specs.declared.frames.TheConstants.{MAX_WAITING}
 use Rattle.spk_session.specs.Meaning.{core_of}
 use Rattle.spk_session.specs.Taking.{IsOpen, Comes}

@@ -1,4 +1,4 @@
-use Rattle.std.proofs.Common.{◌≡◌, ◌∙◌, refl, sym, ap, subst, ◌-◌, false}
+use Rattle.std.proofs.Common.{◌∙◌, refl, sym, ap, subst, ◌-◌, false}
 use Rattle.std.specs.Vec.{with_item}
 use Rattle.xb_wire.specs.Headers.{notification_of}
 use Rattle.bgp_frame.specs.Waiting.{Waiting}

@@ -1,6 +1,5 @@
-use Rattle.std.proofs.Common.{◌≡◌, ◌∙◌, sym, ap, length}
+use Rattle.std.proofs.Common.{◌∙◌, sym, ap, length}
 use Rattle.xbgp_config.specs.Configs.{Config}
-use Rattle.spk_model.specs.declared.host.Setup.{Setup}
 use Rattle.spk_model.specs.Turning.{start_of, start_routing}
 use Rattle.spk_session.proofs.StartLemmas.{start_sound, start_shown}
 use Rattle.spk_session.proofs.host.SessionsHost.make.Goals as goal
