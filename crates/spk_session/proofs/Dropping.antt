@@ -1,4 +1,4 @@
--- What waits where some of it is to be dropped.
+-- What waits if some of it is to be dropped.
 use Rattle.std.proofs.Common.{◌≡◌, ◌<◌, refl, sym, ◌∙◌, ap, ℕ, zero, suc, Bool, true, false, List}
 use Rattle.std.proofs.Common.{[], ◌∷◌, length, take, ◌+◌, add-one, arith, replicate}
 use Rattle.std.specs.Prelude.{slice_index_or}
@@ -26,7 +26,7 @@ kept-set (d ∷ ds) (suc i) [] h = refl
 kept-set (d ∷ ds) (suc i) (w ∷ waits) h = let less : i < length ds = omega (arith, h) in
     ap (λ (l : List (List ℕ)). kept_one d w ∷ l) (kept-set ds i waits less)
 
--- octets at an index are dropped if a flag is up
+-- octets at an index are dropped if a flag is set
 abbrev pub kept_at : Bool → ℕ → List (List ℕ) → List (List ℕ)
 kept_at true i waits = slice_set waits i []
 kept_at false i waits = waits

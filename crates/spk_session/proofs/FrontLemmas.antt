@@ -17,12 +17,12 @@ use Rattle.spk_session.proofs.Dropping.{kept-calm, kept-set}
 use Rattle.spk_session.proofs.FaultLemmas.{fault_none, fault_stable}
 use Rattle.spk_session.proofs.TakeLemmas.{flagged, message_comes, fault_comes}
 
--- a flag that is put down where none is up
+-- a flag that is cleared when none is set
 pub still_calm : (n i : ℕ) → i < n → slice_set (replicate n false) i false ≡ replicate n false
 still_calm n i h = ap (λ (d : Bool). slice_set (replicate n false) i d) (sym (get_or-replicate n i false false h))
     ∙ set-get_or (replicate n false) i false
 
--- a flag that went up and down again
+-- a flag that was set and cleared again
 pub up_and_down : (n i : ℕ) (fa fb fd : List Bool) → i < n → fa ≡ replicate n false → fb ≡ slice_set fa i true
     → fd ≡ slice_set fb i false → fd ≡ replicate n false
 up_and_down n i fa fb fd h calm up down =
@@ -34,7 +34,7 @@ pub only_down : (n i : ℕ) (fa fb fd : List Bool) → i < n → fa ≡ replicat
 only_down n i fa fb fd h calm same down = down ∙ ap (λ (l : List Bool). slice_set l i false) (same ∙ calm)
     ∙ still_calm n i h
 
--- octets whose flag is up are gone
+-- octets whose flag is set are gone
 pub gone_same : (n i : ℕ) (fa fb fd : List Bool) (waits : List (List ℕ)) (x : List ℕ) → i < n → length fa ≡ n
     → fa ≡ replicate n false → fb ≡ slice_set fa i true → fd ≡ replicate n false
     → kept fb (slice_set waits i x) ≡ kept fd (slice_set waits i [])
@@ -54,7 +54,7 @@ same_count : (a b : Core) → b.setup ≡ a.setup → IsReady a → IsReady b
 same_count a b setup one two =
     two.count ∙ ap (λ (s : Setup). length (s.config).peers) setup ∙ sym one.count
 
--- a core after another, with the flags down
+-- a core after another, with no flag set
 pub ready_again : (a b : Core) (ds : Vec Bool Global) → b.setup ≡ a.setup → IsReady a → IsReady b
     → ds.items ≡ replicate (length ((a.links).sessions).items) false → IsCalm a.links → IsReady (flagged b ds)
 ready_again a b ds setup first ready flags calm = record {

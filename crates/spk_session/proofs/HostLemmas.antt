@@ -144,7 +144,7 @@ by_octets rule event p piece frames a b f f' sound peer is same r =
 pub peer_there : (a : Core) (p : ℕ) → IsReady a → (1 ≤ p) × (p ≤ length ((a.setup).config).peers) → HasPeer a.links p
 peer_there a p ready peer = (peer.0, subst (λ (n : ℕ). p ≤ n) (sym ready.count) peer.1)
 
--- a buffer is cleared because its flag is up
+-- a buffer is cleared because its flag is set
 pub dropped_on : (flags : List Bool) (i : ℕ) (flag : Bool) (waits : List (List ℕ)) (frames frames' : List Waiting)
     (f : Waiting) → i < length flags → flag ≡ slice_index_or flags i flag → flag ≡ true
     → waits_of frames ≡ kept (take i flags) waits → frames' ≡ slice_set frames i f → f.waits ≡ []
@@ -157,7 +157,7 @@ dropped_on flags i flag waits frames frames' f inside is raised so_far after emp
     (sym (get_or_default flags i flag false inside) ∙ sym is ∙ raised))
     ∙ sym (kept-next flags i waits inside)
 
--- a buffer is left because its flag is not up
+-- a buffer is left because its flag is not set
 pub dropped_off : (flags : List Bool) (i : ℕ) (flag : Bool) (waits : List (List ℕ)) (frames : List Waiting)
     → i < length flags → flag ≡ slice_index_or flags i flag → flag ≡ false
     → waits_of frames ≡ kept (take i flags) waits → waits_of frames ≡ kept (take (i + 1) flags) waits
@@ -246,7 +246,7 @@ count_after rule e frames frames' last a b sound t same =
     same ∙ t.count ∙ sound.count ∙ (sound.ready).count ∙ ap (λ (s : Setup). length (s.config).peers) (sym t.setup)
     ∙ sym (t.ready).count
 
--- no flag is up, by the sessions of the links before
+-- no flag is set, by the sessions of the links before
 pub calm_after : (l old : Links) → (l.dropped).items ≡ replicate (length (l.sessions).items) false
     → l ≡ record old { dropped = l.dropped } → (l.dropped).items ≡ replicate (length (old.sessions).items) false
 calm_after l old calm same = calm ∙ ap (λ (x : Links). replicate (length (x.sessions).items) false) same

@@ -55,7 +55,7 @@ pub all_spent : (p n : ℕ) (w v : List ℕ) (a b : Core) → IsOpen p a b → C
 all_spent p n w v a b o came few = let none : length v ≤ 0 = omega (arith, few) in
     record { open' = o; drained = empty_drained v none; comes = came }
 
--- octets of the piece that were fed wait no more behind the buffer, but in it
+-- octets of the piece that were fed are in the buffer, and no longer after it
 pub fed_on : (w x piece : List ℕ) (at r : ℕ) → x ≡ w ++ take r (drop at piece)
     → x ++ drop (at + r) piece ≡ w ++ drop at piece
 fed_on w x piece at r e =

@@ -138,7 +138,7 @@ left_by false l new p even peer calm goes flags =
     ∙ get_or-replicate (length (l.sessions).items) (p - 1) false false inside in
     subst (λ (f : Bool). LeftBy f p l new) (sym down) (flags, goes)
 
--- after a stimulus to a live session either its flag is up, or it is live
+-- after a stimulus to a live session either its flag is set, or it is live
 pub left_after : (l new : Links) (p : ℕ) (what : Stimulus) → IsEven l → HasPeer l p → IsCalm l
     → is_live (state_in l p) ≡ true → (new.sessions).items ≡ reacted l p what
     → (new.dropped).items ≡ flags_after p (closes (reaction_of l p what).acts) (l.dropped).items → IsLeft p l new

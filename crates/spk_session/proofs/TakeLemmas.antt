@@ -90,7 +90,7 @@ live_or_not : (s : Setup) (b : Bool) (go : Turn → Turn) (t : Turn) → go t �
 live_or_not s true go t e = e
 live_or_not s false go t e = refl
 
--- where nothing stands at the front, nothing is done
+-- if neither a message nor a fault is at the front, nothing is done
 pub still_turn : (c : Core) (waits : List (List ℕ)) (p m : ℕ) (left : List ℕ) (trace : Trace) → IsCalm c.links
     → p - 1 < length waits → message_size left ≡ None → front_fault left ≡ None
     → take_turns c.setup m (turn_at waits p left trace c) p ≡ turn_at waits p left trace c
@@ -127,7 +127,7 @@ ends_here c p left ready calm none good =
 abbrev pub flagged : Core → Vec Bool Global → Core
 flagged c ds = record c { links = record c.links { dropped = ds } }
 
--- where a core has done a step, and its flags went with the buffers
+-- after a step of a core, other flags with other buffers say the same
 abbrev pub Same : ℕ → List ℕ → Core → List ℕ → Vec Bool Global → Type 0
 Same p left b left' ds = (waits : List (List ℕ))
     → kept ((b.links).dropped).items (slice_set waits (p - 1) left) ≡ kept ds.items (slice_set waits (p - 1) left')

@@ -57,7 +57,7 @@ fn drop_closed(links: &mut Links, frames: &mut Vec<Frames>)
     links.dropped.fill(false);
 }
 
-// What an event does. Octets whose flag is up are still in the buffers.
+// What an event does. Octets whose flag is set are still in the buffers.
 fn turn<R: Routes>(
     alloc: Global,
     links: &mut Links,
