@@ -32,7 +32,8 @@ first_gone-requires c =
     let i = c.prefixes.invariant in
     let es = c.prefixes.entries.entries in
     let d = c.forget.ensures ∙ ap (without prefix_cmp es) c.first-in-prefixes.ensures in
-    (keeps-without es es c.forget.new.entries.entries c.prefixes.left.first (keeps-itself es i.keeps.sound) i.first d).gone
+    let new = c.forget.new.entries.entries in
+    (keeps-without es es new c.prefixes.left.first (keeps-itself es i.keeps.sound) i.first d).gone
     (Some c.prefixes.left) i.span
 
 pub returns-in_err-left : goal.returns-in_err-left
