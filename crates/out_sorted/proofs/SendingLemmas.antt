@@ -34,6 +34,10 @@ gone_is s gone = go s.adv gone
     go None none = refl
     go (Some x) none = absurd (cc none)
 
+-- what a message keeps, before it has a prefix
+pub keeps-itself : (es : Slots) → IsSound es → Keeps es es
+keeps-itself es sound = record { sound = sound; adv = refl; gone = λ span a. a; fresh = λ span a. a }
+
 -- what a message keeps, when a prefix is forgotten that was to be withdrawn
 pub keeps-without : (old es new : Slots) (p : Prefix) → Keeps old es → first_of (keys_where is_gone es) ≡ Some p
     → new ≡ without prefix_cmp es p → Keeps old new

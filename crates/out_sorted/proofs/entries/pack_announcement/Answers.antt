@@ -10,7 +10,8 @@ use Rattle.bgp_write.specs.Pending.{section_of}
 use Rattle.out_sorted.specs.Spans.{Span}
 use Rattle.out_sorted.specs.Slots.{adv_in, is_fresh, retold, AllInSpan}
 use Rattle.out_sorted.specs.Sending.{formed_by, announcement_from}
-use Rattle.out_sorted.proofs.SendingLemmas.{keeps-retold, fewer-retold, fresh_is_advertised, more_announced}
+use Rattle.out_sorted.proofs.SendingLemmas.{keeps-itself, keeps-retold, fewer-retold, fresh_is_advertised}
+use Rattle.out_sorted.proofs.SendingLemmas.{more_announced}
 use Rattle.out_sorted.proofs.SendingLemmas.{shape-announcing, announcement_from-all, announcement_from-full}
 use Rattle.out_sorted.proofs.SendingLemmas.{announcement_from-other}
 use Rattle.out_sorted.proofs.entries.pack_announcement.Goals as goal
@@ -20,7 +21,7 @@ prefixes-init c =
     let es = c.args.entries.now.entries in
     let s = section_of (adv_in es) c.args.span.first in
     record {
-      keeps = record { sound = c.requires.sound; adv = refl; gone = λ span a. a; fresh = λ span a. a };
+      keeps = keeps-itself es c.requires.sound;
       first = sym c.requires.first;
       span = c.requires.span;
       shape = c.requires.packer
@@ -45,7 +46,7 @@ first_fresh-requires c =
     let es = c.prefixes.entries.entries in
     let d = c.tell.ensures ∙ ap (λ (q : Prefix). retold es q (value_at prefix_cmp es q)) c.first-prefix.ensures in
     (keeps-retold es es c.tell.new.entries.entries c.prefixes.left.first
-    (record { sound = i.keeps.sound; adv = refl; gone = λ span a. a; fresh = λ span a. a }) i.first d).fresh
+    (keeps-itself es i.keeps.sound) i.first d).fresh
     (Some c.prefixes.left) i.span
 
 pub returns-then-not-push : goal.returns-then-not-push

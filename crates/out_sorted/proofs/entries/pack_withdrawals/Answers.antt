@@ -8,7 +8,8 @@ use Rattle.bgp_write.specs.Packings.{Packed, packed_message, with_prefix, withdr
 use Rattle.out_sorted.specs.Spans.{Span}
 use Rattle.out_sorted.specs.Slots.{is_gone, AllInSpan}
 use Rattle.out_sorted.specs.Sending.{formed_by, withdrawal_from}
-use Rattle.out_sorted.proofs.SendingLemmas.{keeps-without, fewer-without, more_withdrawn, shape-withdrawing}
+use Rattle.out_sorted.proofs.SendingLemmas.{keeps-itself, keeps-without, fewer-without, more_withdrawn}
+use Rattle.out_sorted.proofs.SendingLemmas.{shape-withdrawing}
 use Rattle.out_sorted.proofs.SendingLemmas.{withdrawal_from-all, withdrawal_from-full}
 use Rattle.out_sorted.proofs.entries.pack_withdrawals.Goals as goal
 
@@ -16,7 +17,7 @@ pub prefixes-init : goal.prefixes-init
 prefixes-init c =
     let es = c.args.entries.now.entries in
     record {
-      keeps = record { sound = c.requires.sound; adv = refl; gone = λ span a. a; fresh = λ span a. a };
+      keeps = keeps-itself es c.requires.sound;
       first = sym c.requires.first;
       span = c.requires.span;
       shape = c.requires.packer
@@ -29,10 +30,11 @@ prefixes-init c =
 pub first_gone-requires : goal.first_gone-requires
 first_gone-requires c =
     let i = c.prefixes.invariant in
-    let d = c.forget.ensures ∙ ap (without prefix_cmp c.prefixes.entries.entries) c.first-in-prefixes.ensures in
-    (keeps-without c.prefixes.entries.entries c.prefixes.entries.entries c.forget.new.entries.entries
-    c.prefixes.left.first
-    (record { sound = i.keeps.sound; adv = refl; gone = λ span a. a; fresh = λ span a. a }) i.first d).gone (Some c.prefixes.left) i.span
+    let es = c.prefixes.entries.entries in
+    let d = c.forget.ensures ∙ ap (without prefix_cmp es) c.first-in-prefixes.ensures in
+    let new = c.forget.new.entries.entries in
+    (keeps-without es es new c.prefixes.left.first (keeps-itself es i.keeps.sound) i.first d).gone
+    (Some c.prefixes.left) i.span
 
 pub returns-in_err-left : goal.returns-in_err-left
 returns-in_err-left c =

@@ -1,4 +1,4 @@
-use Rattle.std.proofs.Common.{◌≡◌, [], Some, None, refl, option_map, is_some, sym, ◌∙◌, ap, subst}
+use Rattle.std.proofs.Common.{[], Some, None, refl, option_map, is_some, sym, ◌∙◌, ap, subst}
 use Rattle.bgp_write.specs.Pending.{section_of}
 use Rattle.bgp_write.specs.Written.{Replaces}
 use Rattle.out_sorted.specs.Told.{Told, written_after}
