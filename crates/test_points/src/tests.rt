@@ -167,7 +167,7 @@ struct Row {
     left: &'static str,
 }
 
-const ROWS: [Row; 15] = [
+static ROWS: [Row; 15] = [
     Row {
         name: "no program",
         point: Point::Inbound,
