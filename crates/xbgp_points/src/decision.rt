@@ -94,7 +94,7 @@ impl<'a, A: RouteView, B: RouteView> Site for DecisionSite<'a, A, B> {
         )
     }
 
-    fn fits(&mut self, verdict: u8) -> bool {
+    fn fits(&mut self, _verdict: u8) -> bool {
         true
     }
 }

@@ -100,7 +100,7 @@ impl<'a> Site for InboundSite<'a> {
         )
     }
 
-    fn fits(&mut self, verdict: u8) -> bool {
+    fn fits(&mut self, _verdict: u8) -> bool {
         true
     }
 }

@@ -103,7 +103,7 @@ impl<'a, R: RouteView> Site for OutboundSite<'a, R> {
         )
     }
 
-    fn fits(&mut self, verdict: u8) -> bool {
+    fn fits(&mut self, _verdict: u8) -> bool {
         true
     }
 }

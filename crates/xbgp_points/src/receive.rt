@@ -89,7 +89,7 @@ impl<'a> Site for ReceiveSite<'a> {
         )
     }
 
-    fn fits(&mut self, verdict: u8) -> bool {
+    fn fits(&mut self, _verdict: u8) -> bool {
         true
     }
 }
