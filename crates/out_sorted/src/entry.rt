@@ -104,10 +104,10 @@ impl Entry {
     {
         let same = self.is_told_as(&section);
         let old = mem::replace(&mut self.section, section);
-        if same {
-            self.state = State::Known;
-        } else if matches!(self.state, State::Known | State::Gone) {
-            self.state = State::Changed(old);
+        match self.state {
+            _ if same => self.state = State::Known,
+            State::Known | State::Gone => self.state = State::Changed(old),
+            _ => {}
         }
     }
 
