@@ -4,3 +4,4 @@ pub mod Acting
 pub mod Taking
 pub mod Hosting
 pub mod Starting
+pub mod Telling
