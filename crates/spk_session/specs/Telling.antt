@@ -37,14 +37,18 @@ pub record Ends (rule : Packing) (p : ℕ) (limit : Option ℕ) (c c' : Core) : 
 abbrev pub Comes : Packing → ℕ → Option ℕ → Core → Option ℕ → Core → Type 0
 Comes rule p limit c limit' c' = (last : Core) → Ends rule p limit' c' last → Ends rule p limit c last
 
--- a rest is there to leave
+-- a step if there is no rest
+abbrev pub no_rest_steps : List ℕ → ℕ
+no_rest_steps [] = 1
+no_rest_steps (x ∷ rest) = 0
+
+-- a rest is there to leave, or a message without octets was formed
 pub record HasRest (rule : Packing) (p : ℕ) (limit : Option ℕ) (c c' : Core) : Type 0 where
   pub ready : IsReady c'
   pub setup : c'.setup ≡ c.setup
-  pub even : c'.links.sessions ≡ c.links.sessions
-  pub open' : is_spent limit ≡ false
-  pub some : rest_steps (rest_in c'.links p) ≡ 1
-  pub less : enough p c' ≤ enough p c
+  pub sessions : c'.links.sessions ≡ c.links.sessions
+  pub unspent : is_spent limit ≡ false
+  pub less : enough p c' + no_rest_steps (rest_in c'.links p) ≤ enough p c
   pub comes : Comes rule p limit c limit c'
 
 -- a rest is there to leave, or telling ends
@@ -57,8 +61,8 @@ pub record HasLeft (rule : Packing) (p : ℕ) (limit : Option ℕ) (c : Core) (l
     : Type 0 where
   pub ready : IsReady c'
   pub setup : c'.setup ≡ c.setup
-  pub even : c'.links.sessions ≡ c.links.sessions
-  pub less : is_spent limit' ≡ false → enough p c' < enough p c
+  pub sessions : c'.links.sessions ≡ c.links.sessions
+  pub less : is_spent limit' ≡ false → enough p c' < enough p c + no_rest_steps (rest_in c.links p)
   pub comes : Comes rule p limit c limit' c'
 
 -- no work is left if the limit is spent

@@ -3,9 +3,8 @@ ghost use Rattle.std.specs.Prelude.{◌≡◌, false, IfOk, OnOk};
 ghost use Rattle.spk_model.specs.Sources.{is_up};
 ghost use Rattle.spk_model.specs.Turning as turning;
 ghost use Rattle.spk_model.specs.Turning.{is_spent, less as less_by, within};
-ghost use Rattle.spk_session.specs.Acting.{rest_in};
 ghost use Rattle.spk_session.specs.Meaning.{core_of, Does, HasPeer, IsEven, IsReady};
-ghost use Rattle.spk_session.specs.Telling.{rest_steps, Ends, HasLeft, RestBy};
+ghost use Rattle.spk_session.specs.Telling.{Ends, HasLeft, RestBy};
 
 use crate::links::{Links, put};
 use crate::routes::Routes;
@@ -65,7 +64,6 @@ fn put_rest<R: Routes>(
     requires ready { IsReady (core_of (R.built_from routes.now) (R.routing routes.now) links.old) }
     requires peer { HasPeer links.old peer }
     requires unspent { is_spent limit ≡ false }
-    requires some { rest_steps (rest_in links.old peer) ≡ 1 }
     ensures { IfOk result (λ left. HasLeft R.RULE peer limit
         (core_of (R.built_from routes.now) (R.routing routes.now) links.old)
         left
