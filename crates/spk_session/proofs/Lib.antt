@@ -10,3 +10,4 @@ pub mod FrontLemmas
 pub mod LoopLemmas
 pub mod HostLemmas
 pub mod StartLemmas
+pub mod ClockLemmas
