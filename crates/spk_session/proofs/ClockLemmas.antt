@@ -1,7 +1,7 @@
 -- Timers that fire one after another.
 use Rattle.std.proofs.Common.{◌≡◌, ◌≤◌, ◌<◌, ◌-◌, ◌+◌, ◌*◌, refl, sym, ◌∙◌, ap, subst, ℕ, zero, suc, Bool, true, false}
-use Rattle.std.proofs.Common.{List, [], ◌∷◌, ◌++◌, length, fold, arith, Option, Some, None}
-use Rattle.std.specs.Prelude.{IfSome, nat_lt, nat_le, if◌then◌else◌, slice_index_or}
+use Rattle.std.proofs.Common.{List, [], ◌∷◌, ◌++◌, length, arith, Option, Some, None}
+use Rattle.std.specs.Prelude.{IfSome, nat_lt, if◌then◌else◌, slice_index_or}
 use Rattle.std.specs.List.{range_with_len}
 use Rattle.std.specs.Option.{option_map}
 use Rattle.std.proofs.lemmas.Bool.{le-leb, lt-leb}
@@ -10,7 +10,6 @@ use Rattle.std.proofs.lemmas.List.Sums.{fold_push}
 use Rattle.bgp_fsm.specs.declared.Timer.{Timer}
 use Rattle.bgp_fsm.specs.Sessions.{Owned, due}
 use Rattle.spk_model.specs.declared.host.Setup.{Setup}
-use Rattle.spk_model.specs.Choosing.{Trace}
 use Rattle.spk_model.specs.Sources.{session_of, peer_numbers}
 use Rattle.spk_model.specs.Turning.{Turn, Due, earlier_due, first_due, fire_first, fire_in_time, set_clock}
 use Rattle.spk_model.specs.Turning.{time_turns, time_to}
@@ -155,11 +154,13 @@ stops now all n m first a is ready still leads =
     (λ waits trace. sym (next_turn a.setup now m (turn_of waits trace a) ∙ still a.setup (turn_of waits trace a)))
     (clocked_done now a ready)))
 
+-- no timer is set
 pub none_set : (now all n m : ℕ) (first a : Core) → n ≡ suc m → IsReady a → next_of a ≡ None
     → Leads now all first n a → Does (λ s t. time_turns s all t now) first (clocked now a)
 none_set now all n m first a is ready none leads =
     stops now all n m first a is ready (λ s t. ap (fire_first s (λ u. time_turns s m u now) t now) none) leads
 
+-- the first timer is due later
 pub none_due : (now all n m : ℕ) (first a : Core) (d : Due) → n ≡ suc m → IsReady a → next_of a ≡ Some d
     → now < d.at → Leads now all first n a → Does (λ s t. time_turns s all t now) first (clocked now a)
 none_due now all n m first a d is ready next later leads =
@@ -172,10 +173,6 @@ pub next_found : (c : Core) (ss : List Owned) (found : Option Due) → ss ≡ ((
     → found ≡ first_of ss (peer_numbers ss) → next_of c ≡ found
 next_found c ss found all is =
     sym (is ∙ ap (λ (x : List Owned). first_of x (peer_numbers x)) all)
-
--- all turns are left
-pub leads_here : (now all n : ℕ) (c : Core) → n ≡ all → Leads now all c n c
-leads_here now all n c is last e = subst (λ (k : ℕ). Does (λ s t. time_turns s k t now) c last) is e
 
 -- the turns are as many as the definition has
 pub clock_done : (now all : ℕ) (first last : Core)

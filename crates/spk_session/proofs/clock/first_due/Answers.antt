@@ -1,4 +1,4 @@
-use Rattle.std.proofs.Common.{◌∙◌, ap, sym, subst, length, ◌<◌, ◌≡◌, ℕ, Option, arith}
+use Rattle.std.proofs.Common.{◌∙◌, ap, sym, subst, length, ◌≡◌, ℕ, Option, arith}
 use Rattle.std.specs.Prelude.{IfSome}
 use Rattle.std.specs.List.{range_with_len}
 use Rattle.spk_model.specs.Turning.{Due}

@@ -1,4 +1,4 @@
-use Rattle.std.proofs.Common.{◌≡◌, ◌-◌, ◌+◌, ◌*◌, ◌∙◌, sym, ap, suc, arith, ℕ, length, Option, Some, None}
+use Rattle.std.proofs.Common.{◌≡◌, ◌-◌, ◌+◌, ◌*◌, ◌∙◌, sym, ap, suc, arith, ℕ, length, Some, None}
 use Rattle.spk_model.specs.Turning.{Due}
 use Rattle.spk_session.specs.Meaning.{core_of}
 use Rattle.spk_session.proofs.ClockLemmas.{fired, turns_over, none_set, none_due, next_found, clock_done}
@@ -40,21 +40,21 @@ returns g c =
     (c.most_turns-turns.ensures ∙ ap (λ (n : ℕ). 2 * n * (now + 1 - c.args.links.now.clock)) count)
     (elim c.turns-test.branch [
       | else-turns-test w ↦
-        turns_over now all (all - i) a b (omega (arith, w.turns-test.false)) c.turns.invariant.ready
-        c.turns.invariant.leads
+          turns_over now all (all - i) a b (omega (arith, w.turns-test.false)) c.turns.invariant.ready
+          c.turns.invariant.leads
       | then-turns-test+in_default-2 w ↦
-        let due : Due =
-        record { at = w.in-Some.due.at; peer = w.in-Some.due.peer; timer = w.in-Some.due.timer } in
-        let found : w.first_due.result ≡ Some due = sym (rw w.in-Some.is at w.first_due-in-turns.view_is) in
-        none_due now all (all - i) (all - (i + 1)) a b due (omega (arith, w.turns-test.true))
-        c.turns.invariant.ready
-        (next_found b w.deref.result.now w.first_due.result w.deref.ensures.value w.first_due.ensures.first
-        ∙ found)
-        (omega (arith, w.if-first_due-from.false, w.from.ensures)) c.turns.invariant.leads
+          let due : Due =
+          record { at = w.in-Some.due.at; peer = w.in-Some.due.peer; timer = w.in-Some.due.timer } in
+          let found : w.first_due.result ≡ Some due = sym (rw w.in-Some.is at w.first_due-in-turns.view_is) in
+          none_due now all (all - i) (all - (i + 1)) a b due (omega (arith, w.turns-test.true))
+          c.turns.invariant.ready
+          (next_found b w.deref.result.now w.first_due.result w.deref.ensures.value w.first_due.ensures.first
+          ∙ found)
+          (omega (arith, w.if-first_due-from.false, w.from.ensures)) c.turns.invariant.leads
       | then-turns-test+in_default w ↦
-        let found : w.first_due.result ≡ None = sym (rw w.in_default.is at w.first_due-in-turns.view_is) in
-        none_set now all (all - i) (all - (i + 1)) a b (omega (arith, w.turns-test.true))
-        c.turns.invariant.ready
-        (next_found b w.deref.result.now w.first_due.result w.deref.ensures.value w.first_due.ensures.first
-        ∙ found) c.turns.invariant.leads
+          let found : w.first_due.result ≡ None = sym (rw w.in_default.is at w.first_due-in-turns.view_is) in
+          none_set now all (all - i) (all - (i + 1)) a b (omega (arith, w.turns-test.true))
+          c.turns.invariant.ready
+          (next_found b w.deref.result.now w.first_due.result w.deref.ensures.value w.first_due.ensures.first
+          ∙ found) c.turns.invariant.leads
     ])
