@@ -1,5 +1,5 @@
 // Timers that fire while the clock is set.
-ghost use Rattle.std.specs.Prelude.{◌≡◌, ◌≤◌, ◌+◌, ◌-◌, ◌*◌, ◌^◌, ◌<◌, Some, [], length, OnOk, IfSome};
+ghost use Rattle.std.specs.Prelude.{◌≡◌, ◌≤◌, ◌+◌, ◌-◌, ◌*◌, ◌^◌, ◌<◌, length, OnOk, IfSome};
 ghost use Rattle.std.specs.Option.{option_map};
 ghost use Rattle.bgp_fsm.specs.Sessions.{due as due_first};
 ghost use Rattle.xbgp_config.specs.declared.limits.TheConstants.{MAX_PEERS};
@@ -15,7 +15,7 @@ use bgp_fsm::{Session, Stimulus, Timer};
 use std::alloc::{AllocError, Global};
 use std::marker::Model;
 
-// A timer that is due: when, in seconds, and whose.
+// A timer: when it is due, in seconds, and whose it is.
 #[derive(Drop)]
 struct Due {
     at: u64,
