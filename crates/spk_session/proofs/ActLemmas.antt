@@ -1,5 +1,6 @@
 -- What an act of a session does.
-use Rattle.std.proofs.Common.{◌≡◌, ◌≤◌, ◌<◌, ◌-◌, refl, sym, ◌∙◌, ap, subst, ℕ, zero, suc, Bool, true, false, List, [], ◌∷◌, ◌++◌, ◌+◌, fold, take, length, Some, arith, Vec}
+use Rattle.std.proofs.Common.{◌≡◌, ◌≤◌, ◌<◌, ◌-◌, refl, sym, ◌∙◌, ap, subst, ℕ, Bool, true, false, List}
+use Rattle.std.proofs.Common.{[], ◌∷◌, ◌++◌, ◌+◌, fold, take, length, Some, arith, Vec}
 use Rattle.std.specs.Prelude.{◌||◌, slice_index_or}
 use Rattle.std.specs.List.{slice_set}
 use Rattle.std.specs.Vec.{with_item}
@@ -17,13 +18,12 @@ use Rattle.bgp_write.specs.Written.{wide_open_message, keepalive_message, notice
 use Rattle.xbgp_config.specs.Configs.{Config}
 use Rattle.xbgp_config.specs.declared.limits.TheConstants.{MAX_PEERS}
 use Rattle.spk_model.specs.declared.host.Setup.{Setup}
-use Rattle.spk_model.specs.Choosing.{Trace}
 use Rattle.spk_model.specs.Sources.{session_of}
 use Rattle.spk_model.specs.Routing.{Routing, export_all, lose}
 use Rattle.spk_model.specs.Turning.{Turn, control, act, react, set_session}
 use Rattle.spk_session.specs.declared.links.Links.{Links}
 use Rattle.spk_session.specs.Routed.{Reroutes}
-use Rattle.spk_session.specs.Meaning.{Core, core_of, speaker_of, turn_of, kept, Does, IsReady, IsEven, HasPeer}
+use Rattle.spk_session.specs.Meaning.{Core, core_of, speaker_of, turn_of, Does, IsReady, IsEven, HasPeer}
 use Rattle.spk_session.specs.Acting.{sends, closed, closes, is_close, flags_after, reacted, reaction_of}
 use Rattle.spk_session.proofs.Following.{does_push, does_then, does_same}
 use Rattle.spk_session.proofs.Dropping.{kept-set}
@@ -64,8 +64,8 @@ unfolding act
 open_sent setup routing config l new p extra ready own is =
     let d = message_sent setup routing l p (own_open setup.config) ready in
     subst (λ (x : Links). Does (λ s t. act s p extra t SendOpen) (core_of setup routing l) (core_of setup routing x))
-      (sym (is ∙ ap (λ (k : Config). sends p (own_open k) l) own))
-      (record { ready = d.ready; setup = refl; speaker = d.speaker; outputs = d.outputs })
+    (sym (is ∙ ap (λ (k : Config). sends p (own_open k) l) own))
+    (record { ready = d.ready; setup = refl; speaker = d.speaker; outputs = d.outputs })
 
 pub keepalive_sent : (setup : Setup) (routing : Routing) (l new : Links) (p : ℕ) (extra : List ℕ)
     → IsReady (core_of setup routing l) → new ≡ sends p keepalive_message l
@@ -73,9 +73,10 @@ pub keepalive_sent : (setup : Setup) (routing : Routing) (l new : Links) (p : �
 unfolding act
 keepalive_sent setup routing l new p extra ready is =
     let d = message_sent setup routing l p keepalive_message ready in
-    subst (λ (x : Links). Does (λ s t. act s p extra t SendKeepalive) (core_of setup routing l) (core_of setup routing x))
-      (sym is)
-      (record { ready = d.ready; setup = refl; speaker = d.speaker; outputs = d.outputs })
+    subst (λ (x : Links). Does (λ s t. act s p extra t SendKeepalive) (core_of setup routing l)
+    (core_of setup routing x))
+    (sym is)
+    (record { ready = d.ready; setup = refl; speaker = d.speaker; outputs = d.outputs })
 
 pub notice_sent : (setup : Setup) (routing : Routing) (l new : Links) (p code subcode : ℕ) (extra : List ℕ)
     → IsReady (core_of setup routing l) → new ≡ sends p (notice_message code subcode extra) l
@@ -84,10 +85,10 @@ unfolding act
 notice_sent setup routing l new p code subcode extra ready is =
     let d = message_sent setup routing l p (notice_message code subcode extra) ready in
     subst
-      (λ (x : Links). Does (λ s t. act s p extra t (SendNotice code subcode)) (core_of setup routing l)
-          (core_of setup routing x))
-      (sym is)
-      (record { ready = d.ready; setup = refl; speaker = d.speaker; outputs = d.outputs })
+    (λ (x : Links). Does (λ s t. act s p extra t (SendNotice code subcode)) (core_of setup routing l)
+    (core_of setup routing x))
+    (sym is)
+    (record { ready = d.ready; setup = refl; speaker = d.speaker; outputs = d.outputs })
 
 -- other routes, of the same setup
 moved_ready : (setup setup' : Setup) (routing routing' : Routing) (l : Links) (os : List Output)
@@ -109,30 +110,31 @@ pub up_done : (setup setup' : Setup) (routing routing' : Routing) (l : Links) (s
     → sessions ≡ (l.sessions).items
     → Reroutes (λ t. export_all setup sessions t p) routing routing'
     → Does (λ s t. act s p extra t Up) (core_of setup routing l)
-      (core_of setup' routing' (record l { outputs = os }))
+    (core_of setup' routing' (record l { outputs = os }))
 unfolding act
 up_done setup setup' routing routing' l sessions os p extra ready is same all goes = record {
   ready = moved_ready setup setup' routing routing' l os ready same;
   setup = same;
   speaker = λ waits trace. ap (λ (r : Routing). speaker_of waits (core_of setup r l))
-    (ap (λ (ss : List Owned). (export_all setup ss (record { routing = routing; trace = trace }) p).routing) (sym all)
+      (ap (λ (ss : List Owned). (export_all setup ss (record { routing = routing; trace = trace }) p).routing) (sym all)
       ∙ goes trace);
   outputs = λ waits trace. sym is;
 }
 
-pub down_done : (setup setup' : Setup) (routing routing' : Routing) (l : Links) (sessions : List Owned) (os : List Output)
+pub down_done : (setup setup' : Setup) (routing routing' : Routing) (l : Links) (sessions : List Owned)
+    (os : List Output)
     (p : ℕ) (extra : List ℕ)
     → IsReady (core_of setup routing l) → os ≡ l.outputs ++ went_down p ∷ [] → setup' ≡ setup
     → sessions ≡ (l.sessions).items
     → Reroutes (λ t. lose setup sessions t p) routing routing'
     → Does (λ s t. act s p extra t Down) (core_of setup routing l)
-      (core_of setup' routing' (record l { outputs = os }))
+    (core_of setup' routing' (record l { outputs = os }))
 unfolding act
 down_done setup setup' routing routing' l sessions os p extra ready is same all goes = record {
   ready = moved_ready setup setup' routing routing' l os ready same;
   setup = same;
   speaker = λ waits trace. ap (λ (r : Routing). speaker_of waits (core_of setup r l))
-    (ap (λ (ss : List Owned). (lose setup ss (record { routing = routing; trace = trace }) p).routing) (sym all)
+      (ap (λ (ss : List Owned). (lose setup ss (record { routing = routing; trace = trace }) p).routing) (sym all)
       ∙ goes trace);
   outputs = λ waits trace. sym is;
 }
@@ -143,30 +145,31 @@ pub close_done : (setup : Setup) (routing : Routing) (l new : Links) (p : ℕ) (
 unfolding act
 close_done setup routing l new p extra ready peer is =
     let within : p - 1 < length (l.dropped).items = omega (arith, (ready.even).flags, peer.0, peer.1) in
-    subst (λ (x : Links). Does (λ s t. act s p extra t Close) (core_of setup routing l) (core_of setup routing x)) (sym is)
-      (record {
-        ready = record {
-          even = record {
-            few = (ready.even).few;
-            rests = length-set (l.rests).items (p - 1) [] ∙ (ready.even).rests;
-            flags = length-set (l.dropped).items (p - 1) true ∙ (ready.even).flags;
-            room = (ready.even).room;
-          };
-          count = ready.count;
+    subst (λ (x : Links). Does (λ s t. act s p extra t Close) (core_of setup routing l) (core_of setup routing x))
+    (sym is)
+    (record {
+      ready = record {
+        even = record {
+          few = (ready.even).few;
+          rests = length-set (l.rests).items (p - 1) [] ∙ (ready.even).rests;
+          flags = length-set (l.dropped).items (p - 1) true ∙ (ready.even).flags;
+          room = (ready.even).room;
         };
-        setup = refl;
-        speaker = λ waits trace.
+        count = ready.count;
+      };
+      setup = refl;
+      speaker = λ waits trace.
           ap
-            (λ (ws : List (List ℕ)). record {
-                clock = l.clock;
-                sessions = (l.sessions).items;
-                rests = slice_set (l.rests).items (p - 1) [];
-                waits = ws;
-                routing = routing;
-              })
-            (sym (kept-set (l.dropped).items (p - 1) waits within));
-        outputs = λ waits trace. refl;
-      })
+          (λ (ws : List (List ℕ)). record {
+            clock = l.clock;
+            sessions = (l.sessions).items;
+            rests = slice_set (l.rests).items (p - 1) [];
+            waits = ws;
+            routing = routing;
+          })
+          (sym (kept-set (l.dropped).items (p - 1) waits within));
+      outputs = λ waits trace. refl;
+    })
 
 or_false : (b : Bool) → (b || false) ≡ b
 or_false true = refl
@@ -179,9 +182,11 @@ or_assoc false b c = refl
 -- one more act
 pub closes-append : (xs : List Act) (x : Act) → closes (xs ++ x ∷ []) ≡ (closes xs || is_close x)
 closes-append [] x = or_false (is_close x)
-closes-append (y ∷ xs) x = ap (λ (b : Bool). is_close y || b) (closes-append xs x) ∙ or_assoc (is_close y) (closes xs) (is_close x)
+closes-append (y ∷ xs) x = ap (λ (b : Bool). is_close y || b) (closes-append xs x)
+    ∙ or_assoc (is_close y) (closes xs) (is_close x)
 
-flags_twice : (p : ℕ) (a b : Bool) (flags : List Bool) → flags_after p b (flags_after p a flags) ≡ flags_after p (a || b) flags
+flags_twice : (p : ℕ) (a b : Bool) (flags : List Bool)
+    → flags_after p b (flags_after p a flags) ≡ flags_after p (a || b) flags
 flags_twice p true true flags = set-set flags (p - 1) true true
 flags_twice p true false flags = refl
 flags_twice p false b flags = refl
@@ -194,7 +199,8 @@ flags-push p xs ys x first second third is one two =
     ∙ ap (λ (b : Bool). flags_after p b first) (sym (ap closes is ∙ closes-append xs x))
 
 -- the acts up to one, and with it
-pub acts_more : (acts : List Act) (i : ℕ) (x : Act) → slice_get acts i ≡ Some x → take (i + 1) acts ≡ take i acts ++ x ∷ []
+pub acts_more : (acts : List Act) (i : ℕ) (x : Act) → slice_get acts i ≡ Some x
+    → take (i + 1) acts ≡ take i acts ++ x ∷ []
 acts_more acts i x is =
     take_more acts i x (slice_get_within acts i x is)
     ∙ ap (λ (y : Act). take i acts ++ y ∷ []) (get_or_from_slice_get acts i x x is)
@@ -249,13 +255,13 @@ unfolding react
 reacts_so setup t p what extra own new acts same does after =
     ap (λ (xs : List Act). fold (act setup p extra) (set_session t p new) xs) does
     ∙ ap
-      (λ (x : Owned). fold (act setup p extra) (set_session t p x) (row own.own own.session (t.speaker).clock what).acts)
-      after
+    (λ (x : Owned). fold (act setup p extra) (set_session t p x) (row own.own own.session (t.speaker).clock what).acts)
+    after
     ∙ ap
-      (λ (x : Owned). fold (act setup p extra)
-          (set_session t p (record x { session = (row x.own x.session (t.speaker).clock what).session }))
-          (row x.own x.session (t.speaker).clock what).acts)
-      same
+    (λ (x : Owned). fold (act setup p extra)
+    (set_session t p (record x { session = (row x.own x.session (t.speaker).clock what).session }))
+    (row x.own x.session (t.speaker).clock what).acts)
+    same
 
 own_read : (l : Links) (p : ℕ) (own : Owned) → HasPeer l p → own ≡ slice_index_or (l.sessions).items (p - 1) own
     → own ≡ session_of (l.sessions).items p
@@ -277,7 +283,7 @@ react_done setup routing l p what extra own new acts c ready peer is does after 
     does_same (λ s t. fold (act s p extra) (set_session t p new) acts) (λ s t. react s t p what extra) a c
     (λ waits trace. reacts_so setup (turn_of waits trace a) p what extra own new acts same does after)
     (does_then (λ s t. set_session t p new) (λ s t. fold (act s p extra) t acts) a
-      (core_of setup routing (with_session l p new)) c (session_done setup routing l p new ready) d)
+    (core_of setup routing (with_session l p new)) c (session_done setup routing l p new ready) d)
 
 -- the sessions after one of them reacted
 pub reacted_so : (l : Links) (p : ℕ) (what : Stimulus) (own new : Owned) (now : ℕ) → HasPeer l p
@@ -286,11 +292,11 @@ pub reacted_so : (l : Links) (p : ℕ) (what : Stimulus) (own new : Owned) (now 
     → slice_set (l.sessions).items (p - 1) new ≡ reacted l p what
 reacted_so l p what own new now peer is clock after =
     ap (λ (x : Owned). slice_set (l.sessions).items (p - 1) x)
-      (after ∙ ap (λ (n : ℕ). record own { session = (row own.own own.session n what).session }) clock)
+    (after ∙ ap (λ (n : ℕ). record own { session = (row own.own own.session n what).session }) clock)
     ∙ ap
-      (λ (x : Owned). slice_set (l.sessions).items (p - 1)
-          (record x { session = (row x.own x.session l.clock what).session }))
-      (own_read l p own peer is)
+    (λ (x : Owned). slice_set (l.sessions).items (p - 1)
+    (record x { session = (row x.own x.session l.clock what).session }))
+    (own_read l p own peer is)
 
 -- the acts of one of them that reacted
 pub acts_so : (l : Links) (p : ℕ) (what : Stimulus) (own : Owned) (now : ℕ) (acts : List Act) → HasPeer l p

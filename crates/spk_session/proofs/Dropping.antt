@@ -1,5 +1,6 @@
--- What waits where some of it is to be dropped.
-use Rattle.std.proofs.Common.{◌≡◌, ◌≤◌, ◌<◌, ◌-◌, refl, sym, ◌∙◌, ap, subst, ℕ, zero, suc, Bool, true, false, List, [], ◌∷◌, length, take, ◌+◌, add-one, arith, replicate}
+-- What waits if some of it is to be dropped.
+use Rattle.std.proofs.Common.{◌≡◌, ◌<◌, refl, sym, ◌∙◌, ap, ℕ, zero, suc, Bool, true, false, List}
+use Rattle.std.proofs.Common.{[], ◌∷◌, length, take, ◌+◌, add-one, arith, replicate}
 use Rattle.std.specs.Prelude.{slice_index_or}
 use Rattle.std.specs.List.{slice_set}
 use Rattle.std.proofs.lemmas.List.Elements.{All-get_or, All-from_get_or}
@@ -16,14 +17,16 @@ kept-calm zero waits = refl
 kept-calm (suc n) [] = refl
 kept-calm (suc n) (w ∷ waits) = ap (λ (l : List (List ℕ)). w ∷ l) (kept-calm n waits)
 
-pub kept-set : (ds : List Bool) (i : ℕ) (waits : List (List ℕ)) → i < length ds → kept (slice_set ds i true) waits ≡ slice_set (kept ds waits) i []
+pub kept-set : (ds : List Bool) (i : ℕ) (waits : List (List ℕ)) → i < length ds
+    → kept (slice_set ds i true) waits ≡ slice_set (kept ds waits) i []
 kept-set [] i waits h = absurd (omega (arith, h))
 kept-set (d ∷ ds) zero [] h = refl
 kept-set (d ∷ ds) zero (w ∷ waits) h = refl
 kept-set (d ∷ ds) (suc i) [] h = refl
-kept-set (d ∷ ds) (suc i) (w ∷ waits) h = let less : i < length ds = omega (arith, h) in ap (λ (l : List (List ℕ)). kept_one d w ∷ l) (kept-set ds i waits less)
+kept-set (d ∷ ds) (suc i) (w ∷ waits) h = let less : i < length ds = omega (arith, h) in
+    ap (λ (l : List (List ℕ)). kept_one d w ∷ l) (kept-set ds i waits less)
 
--- octets at an index are dropped if a flag is up
+-- octets at an index are dropped if a flag is set
 abbrev pub kept_at : Bool → ℕ → List (List ℕ) → List (List ℕ)
 kept_at true i waits = slice_set waits i []
 kept_at false i waits = waits
@@ -68,9 +71,9 @@ kept_drained_at (false ∷ ds) (w ∷ waits) all zero h = let first : 0 < length
 kept_drained_at (d ∷ ds) (w ∷ waits) all (suc i) h =
     let less : i < length (kept ds waits) = omega (arith, h) in
     kept_drained_at ds waits
-      (λ k inside. let more : suc k < length (w ∷ waits) = omega (arith, inside) in all (suc k) more) i less
+    (λ k inside. let more : suc k < length (w ∷ waits) = omega (arith, inside) in all (suc k) more) i less
 
 pub kept_drained : (ds : List Bool) (waits : List (List ℕ)) → AreDrained waits → AreDrained (kept ds waits)
 kept_drained ds waits all =
     All-from_get_or IsDrained (kept ds waits) []
-      (kept_drained_at ds waits (λ i inside. All-get_or IsDrained waits i [] inside all))
+    (kept_drained_at ds waits (λ i inside. All-get_or IsDrained waits i [] inside all))

@@ -1,12 +1,16 @@
 -- A fault at the front stays it, whatever follows.
-use Rattle.std.proofs.Common.{◌≡◌, ◌≤◌, ◌<◌, refl, sym, ◌∙◌, ap, ℕ, Bool, true, false, cond, List, [], ◌∷◌, ◌++◌, length, take, drop, Option, Some, None, arith, nat_lt}
+use Rattle.std.proofs.Common.{◌≡◌, ◌≤◌, refl, sym, ◌∙◌, ap, ℕ, Bool, true, false, cond, List, [], ◌∷◌, ◌++◌}
+use Rattle.std.proofs.Common.{length, take, drop, Option, Some, None, arith, nat_lt}
 use Rattle.std.proofs.lemmas.Bool.{ltb-false, le-ltb}
 use Rattle.std.proofs.lemmas.List.{take-append-le, drop-append-le, length-append, length-drop, get_or_append_left}
 use Rattle.std.specs.Prelude.{◌||◌, ◌==◌, not, slice_index, slice_range, if◌then◌else◌}
 use Rattle.std.specs.Int.{w16, from_be_bytes}
 use Rattle.xb_words.specs.Octets.{all_are}
-use Rattle.xb_wire.specs.declared.numbers.TheConstants.{MARKER, HEADER, MAX_MESSAGE, KEEPALIVE, MESSAGE_HEADER_ERROR, CONNECTION_NOT_SYNCHRONIZED, BAD_MESSAGE_LENGTH, BAD_MESSAGE_TYPE}
-use Rattle.xb_wire.specs.Messages.{Notification, notification, message_size, header_fault, front_fault, message_length, is_bad_length}
+use Rattle.xb_wire.specs.declared.numbers.TheConstants.{HEADER, MAX_MESSAGE, KEEPALIVE, MESSAGE_HEADER_ERROR}
+use Rattle.xb_wire.specs.declared.numbers.TheConstants.{CONNECTION_NOT_SYNCHRONIZED, BAD_MESSAGE_LENGTH}
+use Rattle.xb_wire.specs.declared.numbers.TheConstants.{BAD_MESSAGE_TYPE}
+use Rattle.xb_wire.specs.Messages.{Notification, notification, message_size, header_fault, front_fault}
+use Rattle.xb_wire.specs.Messages.{message_length, is_bad_length}
 
 -- a header's fault by the octets that it depends on
 abbrev header_fault_by : List ℕ → ℕ → ℕ → ℕ → List ℕ → Option Notification
@@ -44,20 +48,25 @@ header_fault-append s t h =
     ∙ ap (λ x. header_fault_by (take 16 s) (slice_index s 16) (slice_index s 17) (slice_index s 18) x) d
     ∙ sym (by_parts s)
 
-refused : (b : Bool) (o : Option Notification) (m : Option ℕ) (n : Notification) → cond {A = Option Notification} b None o ≡ Some n → cond {A = Option ℕ} b None (elim o [ Some f ↦ None | None ↦ m ]) ≡ None
+refused : (b : Bool) (o : Option Notification) (m : Option ℕ) (n : Notification)
+    → cond {A = Option Notification} b None o ≡ Some n
+    → cond {A = Option ℕ} b None (elim o [ Some f ↦ None | None ↦ m ]) ≡ None
 refused true o m n e = refl
 refused false None m n e = cc
 refused false (Some f) m n e = refl
 
 -- a refused header is no message
 pub fault_none : (s : List ℕ) (f : Notification) → front_fault s ≡ Some f → message_size s ≡ None
-fault_none s f h = refused (nat_lt (length s) 19) (header_fault s) (cond (nat_lt (length s) (message_length s)) None (Some (message_length s))) f h
+fault_none s f h = refused (nat_lt (length s) 19) (header_fault s)
+    (cond (nat_lt (length s) (message_length s)) None (Some (message_length s))) f h
 
-by_test : (b : Bool) (o : Option Notification) (f : Notification) → cond {A = Option Notification} b None o ≡ Some f → (b ≡ false) × (o ≡ Some f)
+by_test : (b : Bool) (o : Option Notification) (f : Notification) → cond {A = Option Notification} b None o ≡ Some f
+    → (b ≡ false) × (o ≡ Some f)
 by_test true o f e = cc
 by_test false o f e = (refl, e)
 
-from_test : (b : Bool) (o : Option Notification) (f : Notification) → b ≡ false → o ≡ Some f → cond {A = Option Notification} b None o ≡ Some f
+from_test : (b : Bool) (o : Option Notification) (f : Notification) → b ≡ false → o ≡ Some f
+    → cond {A = Option Notification} b None o ≡ Some f
 from_test true o f b e = cc
 from_test false o f b e = e
 
@@ -65,4 +74,5 @@ pub fault_stable : (s t : List ℕ) (f : Notification) → front_fault s ≡ Som
 fault_stable s t f e =
     let p = by_test (nat_lt (length s) 19) (header_fault s) f e in
     let long : 19 ≤ length s = ltb-false (length s) 19 p.0 in
-    from_test (nat_lt (length (s ++ t)) 19) (header_fault (s ++ t)) f (le-ltb (length (s ++ t)) 19 (omega (arith, long, length-append s t))) (header_fault-append s t long ∙ p.1)
+    from_test (nat_lt (length (s ++ t)) 19) (header_fault (s ++ t)) f
+    (le-ltb (length (s ++ t)) 19 (omega (arith, long, length-append s t))) (header_fault-append s t long ∙ p.1)

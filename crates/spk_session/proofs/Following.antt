@@ -1,5 +1,5 @@
 -- One function after another.
-use Rattle.std.proofs.Common.{◌≡◌, refl, sym, ◌∙◌, ap, ℕ, List, [], ◌∷◌, ◌++◌, fold, length}
+use Rattle.std.proofs.Common.{◌≡◌, refl, sym, ◌∙◌, ap, ℕ, List, [], ◌∷◌, ◌++◌, fold}
 use Rattle.std.proofs.lemmas.List.Sums.{fold_push}
 use Rattle.std.specs.Result.{OnOk}
 use Rattle.std.specs.declared.result.Result.{Result}
@@ -27,21 +27,21 @@ pub does_then : (f g : Setup → Turn → Turn) (a b c : Core) → Does f a b �
     → Does (λ setup t. g setup (f setup t)) a c
 does_then f g a b c one two =
     let met : (waits : List (List ℕ)) (trace : Trace)
-        → f a.setup (turn_of waits trace a) ≡ turn_of waits (f a.setup (turn_of waits trace a)).trace b =
+    → f a.setup (turn_of waits trace a) ≡ turn_of waits (f a.setup (turn_of waits trace a)).trace b =
     λ waits trace. turn_by_parts (f a.setup (turn_of waits trace a)) (speaker_of waits b) (b.links).outputs
-      (one.speaker waits trace) (one.outputs waits trace) in
+    (one.speaker waits trace) (one.outputs waits trace) in
     let step : (waits : List (List ℕ)) (trace : Trace)
-        → g a.setup (f a.setup (turn_of waits trace a))
-          ≡ g b.setup (turn_of waits (f a.setup (turn_of waits trace a)).trace b) =
+    → g a.setup (f a.setup (turn_of waits trace a))
+    ≡ g b.setup (turn_of waits (f a.setup (turn_of waits trace a)).trace b) =
     λ waits trace. ap (g a.setup) (met waits trace)
-      ∙ ap (λ (s : Setup). g s (turn_of waits (f a.setup (turn_of waits trace a)).trace b)) (sym one.setup) in
+    ∙ ap (λ (s : Setup). g s (turn_of waits (f a.setup (turn_of waits trace a)).trace b)) (sym one.setup) in
     record {
       ready = two.ready;
       setup = two.setup ∙ one.setup;
       speaker = λ waits trace. ap (λ (t : Turn). t.speaker) (step waits trace)
-        ∙ two.speaker waits (f a.setup (turn_of waits trace a)).trace;
+          ∙ two.speaker waits (f a.setup (turn_of waits trace a)).trace;
       outputs = λ waits trace. ap (λ (t : Turn). t.outputs) (step waits trace)
-        ∙ two.outputs waits (f a.setup (turn_of waits trace a)).trace;
+          ∙ two.outputs waits (f a.setup (turn_of waits trace a)).trace;
     }
 
 -- the same step in other words
@@ -63,7 +63,7 @@ pub does_push : {A : Type 0} (f : Setup → Turn → A → Turn) (xs ys : List A
 does_push f xs ys x a b c is so_far d =
     does_same (λ setup t. f setup (fold (f setup) t xs) x) (λ setup t. fold (f setup) t ys) a c
     (λ waits trace. sym (ap (λ l. fold (f a.setup) (turn_of waits trace a) l) is
-      ∙ fold_push (f a.setup) (turn_of waits trace a) xs x))
+    ∙ fold_push (f a.setup) (turn_of waits trace a) xs x))
     (does_then (λ setup t. fold (f setup) t xs) (λ setup t. f setup t x) a b c so_far d)
 
 -- two facts of one success

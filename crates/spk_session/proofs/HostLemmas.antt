@@ -1,5 +1,6 @@
 -- What an event does to buffers and both halves.
-use Rattle.std.proofs.Common.{◌≡◌, ◌≤◌, ◌<◌, ◌-◌, ◌+◌, refl, sym, ◌∙◌, ap, subst, ℕ, zero, suc, Bool, true, false, List, [], ◌∷◌, ◌++◌, length, map, take, Some, None, arith, replicate, Vec}
+use Rattle.std.proofs.Common.{◌≡◌, ◌≤◌, ◌<◌, ◌-◌, ◌+◌, refl, sym, ◌∙◌, ap, subst, ℕ, Bool, true, false}
+use Rattle.std.proofs.Common.{List, [], length, take, Some, None, arith, replicate, Vec}
 use Rattle.std.specs.Prelude.{slice_index_or}
 use Rattle.std.specs.List.{slice_set}
 use Rattle.std.specs.declared.alloc.Global.{Global}
@@ -13,12 +14,11 @@ use Rattle.bgp_frame.specs.Waiting.{Waiting}
 use Rattle.bgp_fsm.specs.Sessions.{Owned}
 use Rattle.bgp_fsm.specs.declared.Stimulus.TheVariants as stimuli
 use Rattle.spk_model.specs.declared.host.Setup.{Setup}
-use Rattle.spk_model.specs.Choosing.{Trace}
 use Rattle.spk_model.specs.Routing.{Routing}
 use Rattle.spk_model.specs.Turning.{Turn, turn, react, octets_in, time_to, emit, before, event}
 use Rattle.spk_session.specs.declared.links.Links.{Links}
 use Rattle.spk_session.specs.Routed.{Reroutes, rescanned}
-use Rattle.spk_session.specs.Meaning.{Core, core_of, Does, HasPeer, IsReady, kept, kept_one, speaker_of, turn_of}
+use Rattle.spk_session.specs.Meaning.{Core, core_of, Does, HasPeer, IsReady, kept, speaker_of, turn_of}
 use Rattle.spk_session.specs.Taking.{IsDrained, Receives}
 use Rattle.spk_session.specs.Hosting.{waits_of, shown, AreDrained, IsSound, Turns}
 use Rattle.spk_session.proofs.Dropping.{kept_at, kept-next, kept-calm, kept_drained}
@@ -84,7 +84,7 @@ by_rescan rule setup setup' routing routing' l sessions ready same all goes = re
   };
   setup = same;
   speaker = λ waits trace. ap (λ (r : Routing). speaker_of waits (core_of setup r l))
-    (ap (λ (ss : List Owned). (rescanned setup ss (record { routing = routing; trace = trace })).routing) (sym all)
+      (ap (λ (ss : List Owned). (rescanned setup ss (record { routing = routing; trace = trace })).routing) (sym all)
       ∙ goes trace);
   outputs = λ waits trace. refl;
 }
@@ -113,21 +113,22 @@ by_octets_at rule p piece frames a b f f' sound peer is r =
     omega (arith, length-map frames (λ (x : Waiting). x.waits), sound.count, peer.0, peer.1) in
     let before : slice_set (waits_of frames) (p - 1) f.waits ≡ waits_of frames =
     ap (slice_set (waits_of frames) (p - 1)) (wait_read frames (p - 1) f is)
-      ∙ set-get_or (waits_of frames) (p - 1) f.waits in
+    ∙ set-get_or (waits_of frames) (p - 1) f.waits in
     let after : waits_of (slice_set frames (p - 1) f') ≡ slice_set (waits_of frames) (p - 1) f'.waits =
     map-set (λ (x : Waiting). x.waits) frames (p - 1) f' in
     record {
       ready = r.ready;
       setup = r.setup;
       count = length-set frames (p - 1) f';
-      drained = subst AreDrained (sym after) (All-set IsDrained (waits_of frames) (p - 1) f'.waits r.drained sound.drained);
+      drained = subst AreDrained (sym after) (All-set IsDrained (waits_of frames)
+          (p - 1) f'.waits r.drained sound.drained);
       speaker = λ trace.
-        ap (λ (ws : List (List ℕ)). (octets_in a.setup (turn_of ws trace a) p piece).speaker) (sym before)
-        ∙ r.speaker (waits_of frames) trace inside
-        ∙ ap (λ (ws : List (List ℕ)). speaker_of ws b) (sym after);
+          ap (λ (ws : List (List ℕ)). (octets_in a.setup (turn_of ws trace a) p piece).speaker) (sym before)
+          ∙ r.speaker (waits_of frames) trace inside
+          ∙ ap (λ (ws : List (List ℕ)). speaker_of ws b) (sym after);
       outputs = λ trace.
-        ap (λ (ws : List (List ℕ)). (octets_in a.setup (turn_of ws trace a) p piece).outputs) (sym before)
-        ∙ r.outputs (waits_of frames) trace inside;
+          ap (λ (ws : List (List ℕ)). (octets_in a.setup (turn_of ws trace a) p piece).outputs) (sym before)
+          ∙ r.outputs (waits_of frames) trace inside;
     }
 
 -- octets that came go into one buffer
@@ -143,7 +144,7 @@ by_octets rule event p piece frames a b f f' sound peer is same r =
 pub peer_there : (a : Core) (p : ℕ) → IsReady a → (1 ≤ p) × (p ≤ length ((a.setup).config).peers) → HasPeer a.links p
 peer_there a p ready peer = (peer.0, subst (λ (n : ℕ). p ≤ n) (sym ready.count) peer.1)
 
--- a buffer is cleared because its flag is up
+-- a buffer is cleared because its flag is set
 pub dropped_on : (flags : List Bool) (i : ℕ) (flag : Bool) (waits : List (List ℕ)) (frames frames' : List Waiting)
     (f : Waiting) → i < length flags → flag ≡ slice_index_or flags i flag → flag ≡ true
     → waits_of frames ≡ kept (take i flags) waits → frames' ≡ slice_set frames i f → f.waits ≡ []
@@ -153,17 +154,17 @@ dropped_on flags i flag waits frames frames' f inside is raised so_far after emp
     ∙ ap (λ (w : List ℕ). slice_set (waits_of frames) i w) empty
     ∙ ap (λ (ws : List (List ℕ)). slice_set ws i []) so_far
     ∙ sym (ap (λ (d : Bool). kept_at d i (kept (take i flags) waits))
-        (sym (get_or_default flags i flag false inside) ∙ sym is ∙ raised))
+    (sym (get_or_default flags i flag false inside) ∙ sym is ∙ raised))
     ∙ sym (kept-next flags i waits inside)
 
--- a buffer is left because its flag is not up
+-- a buffer is left because its flag is not set
 pub dropped_off : (flags : List Bool) (i : ℕ) (flag : Bool) (waits : List (List ℕ)) (frames : List Waiting)
     → i < length flags → flag ≡ slice_index_or flags i flag → flag ≡ false
     → waits_of frames ≡ kept (take i flags) waits → waits_of frames ≡ kept (take (i + 1) flags) waits
 dropped_off flags i flag waits frames inside is lowered so_far =
     so_far
     ∙ sym (ap (λ (d : Bool). kept_at d i (kept (take i flags) waits))
-        (sym (get_or_default flags i flag false inside) ∙ sym is ∙ lowered))
+    (sym (get_or_default flags i flag false inside) ∙ sym is ∙ lowered))
     ∙ sym (kept-next flags i waits inside)
 
 -- the host after the flags were looked at, and the outputs taken away
@@ -174,15 +175,15 @@ pub shown_after : (b : Core) (first after : List Waiting) (l : Links) (ds : Vec 
 shown_after b first after l ds os waits calm is =
     ap (λ (x : Links). shown after (core_of b.setup b.routing (record x { outputs = os }))) is
     ∙ ap
-      (λ (ws : List (List ℕ)). record {
-          clock = (b.links).clock;
-          sessions = ((b.links).sessions).items;
-          rests = ((b.links).rests).items;
-          waits = ws;
-          routing = b.routing;
-        })
-      (ap (λ (flags : List Bool). kept flags (waits_of after)) calm
-        ∙ kept-calm (length ((b.links).sessions).items) (waits_of after) ∙ waits)
+    (λ (ws : List (List ℕ)). record {
+      clock = (b.links).clock;
+      sessions = ((b.links).sessions).items;
+      rests = ((b.links).rests).items;
+      waits = ws;
+      routing = b.routing;
+    })
+    (ap (λ (flags : List Bool). kept flags (waits_of after)) calm
+    ∙ kept-calm (length ((b.links).sessions).items) (waits_of after) ∙ waits)
 
 sound_at : (b : Core) (first after : List Waiting) (ds : Vec Bool Global)
     → IsReady b → waits_of after ≡ kept ((b.links).dropped).items (waits_of first) → AreDrained (waits_of first)
@@ -212,15 +213,16 @@ pub sound_after : (b : Core) (first after : List Waiting) (l : Links) (ds : Vec 
     → os ≡ [] → IsSound after (core_of b.setup b.routing (record l { outputs = os }))
 sound_after b first after l ds os ready waits drained count calm is none =
     subst (λ (x : Links). IsSound after (core_of b.setup b.routing (record x { outputs = os }))) (sym is)
-    (subst (λ (x : List Output). IsSound after (core_of b.setup b.routing (record b.links { dropped = ds; outputs = x })))
-      (sym none) (sound_at b first after ds ready waits drained count calm))
+    (subst (λ (x : List Output). IsSound after
+    (core_of b.setup b.routing (record b.links { dropped = ds; outputs = x })))
+    (sym none) (sound_at b first after ds ready waits drained count calm))
 
 -- an event of a host without outputs
 quiet : (rule : Packing) (e : Event) (frames : List Waiting) (a : Core) → IsSound frames a
     → turn rule a.setup (turn_of (waits_of frames) [] a) e ≡ turn rule a.setup (before (shown frames a)) e
 quiet rule e frames a sound =
     ap (λ (os : List Output). turn rule a.setup (record { speaker = shown frames a; outputs = os; trace = [] }) e)
-      sound.silent
+    sound.silent
 
 pub speaker_stepped : (rule : Packing) (e : Event) (frames frames' : List Waiting) (a b : Core) → IsSound frames a
     → Turns rule e frames a frames' b
@@ -244,7 +246,7 @@ count_after rule e frames frames' last a b sound t same =
     same ∙ t.count ∙ sound.count ∙ (sound.ready).count ∙ ap (λ (s : Setup). length (s.config).peers) (sym t.setup)
     ∙ sym (t.ready).count
 
--- no flag is up, by the sessions of the links before
+-- no flag is set, by the sessions of the links before
 pub calm_after : (l old : Links) → (l.dropped).items ≡ replicate (length (l.sessions).items) false
     → l ≡ record old { dropped = l.dropped } → (l.dropped).items ≡ replicate (length (old.sessions).items) false
 calm_after l old calm same = calm ∙ ap (λ (x : Links). replicate (length (x.sessions).items) false) same

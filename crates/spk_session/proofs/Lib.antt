@@ -10,4 +10,5 @@ pub mod FrontLemmas
 pub mod LoopLemmas
 pub mod HostLemmas
 pub mod StartLemmas
-mod TellLemmas
+pub mod TellLemmas
+pub mod ClockLemmas

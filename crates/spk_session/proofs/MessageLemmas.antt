@@ -1,5 +1,6 @@
 -- What a message does, by its type and its fault.
-use Rattle.std.proofs.Common.{◌≡◌, ◌≤◌, ◌<◌, ◌-◌, refl, ap, subst, sym, ◌∙◌, ℕ, List, [], Option, Some, None, length, arith, inl, inr, ◌⊎◌}
+use Rattle.std.proofs.Common.{◌≡◌, ◌<◌, ◌-◌, ap, sym, ◌∙◌, ℕ, List, [], length}
+use Rattle.std.proofs.Common.{arith, inl, inr, ◌⊎◌}
 use Rattle.std.specs.Prelude.{slice_index_or, ◌==◌, if◌then◌else◌}
 use Rattle.std.proofs.lemmas.List.{get_or_default}
 use Rattle.xb_wire.specs.Messages.{Notification, message_kind, message_body}
@@ -12,7 +13,8 @@ use Rattle.bgp_fsm.specs.Sessions.{Owned}
 use Rattle.bgp_fsm.specs.declared.Stimulus.TheVariants as stimuli
 use Rattle.spk_model.specs.declared.host.Setup.{Setup}
 use Rattle.spk_model.specs.Sources.{session_of, entry_of, is_wide}
-use Rattle.spk_model.specs.Turning.{Turn, message_in, react, refuse, open_in, judged_open, update_in, judged_update, state_of}
+use Rattle.spk_model.specs.Turning.{Turn, message_in, react, refuse, open_in, judged_open, update_in, judged_update}
+use Rattle.spk_model.specs.Turning.{state_of}
 use Rattle.spk_session.specs.declared.links.Links.{Links}
 use Rattle.spk_session.specs.Meaning.{Core, Does, HasPeer, state_in, turn_of}
 use Rattle.spk_session.proofs.Following.{does_same}
@@ -47,7 +49,7 @@ pub opened : (p : ℕ) (body : List ℕ) (a b : Core) → state_in a.links p ≡
     → Does (λ s t. open_in s t p body (state_of t p)) a b
 opened p body a b is d =
     does_same (λ s t. judged_open s t p body (judge_open4 body (entry_of (s.config) p).asn))
-      (λ s t. open_in s t p body (state_of t p)) a b
+    (λ s t. open_in s t p body (state_of t p)) a b
     (λ waits trace. judged_so a.setup (turn_of waits trace a) p body (state_in a.links p) is) d
 
 -- one of four states
@@ -70,11 +72,11 @@ pub opened_late : (p : ℕ) (body : List ℕ) (a b : Core) (s : State) → state
 opened_late p body a b s is other d =
     does_same (λ s t. react s t p stimuli.OpenLate []) (λ s t. open_in s t p body (state_of t p)) a b
     (λ waits trace. late_so a.setup (turn_of waits trace a) p body s other
-      ∙ ap (λ (x : State). open_in a.setup (turn_of waits trace a) p body x) (sym is)) d
+    ∙ ap (λ (x : State). open_in a.setup (turn_of waits trace a) p body x) (sym is)) d
 
 update_so : (setup : Setup) (t : Turn) (p : ℕ) (body : List ℕ) (state : State) → state ≡ Established
     → judged_update setup t p body (judge (width_of (is_wide (t.speaker).sessions p)) body)
-      ≡ update_in setup t p body state
+    ≡ update_in setup t p body state
 unfolding update_in
 update_so setup t p body state is = sym (ap (λ (s : State). update_in setup t p body s) is)
 
@@ -84,7 +86,7 @@ pub updated : (p : ℕ) (body : List ℕ) (a b : Core) → state_in a.links p �
     → Does (λ s t. update_in s t p body (state_of t p)) a b
 updated p body a b is d =
     does_same (λ s t. judged_update s t p body (judge (width_of (is_wide (t.speaker).sessions p)) body))
-      (λ s t. update_in s t p body (state_of t p)) a b
+    (λ s t. update_in s t p body (state_of t p)) a b
     (λ waits trace. update_so a.setup (turn_of waits trace a) p body (state_in a.links p) is) d
 
 early_so : (setup : Setup) (t : Turn) (p : ℕ) (body : List ℕ) (state : State)
@@ -103,7 +105,7 @@ pub updated_early : (p : ℕ) (body : List ℕ) (a b : Core) (s : State) → sta
 updated_early p body a b s is other d =
     does_same (λ s t. react s t p stimuli.Update []) (λ s t. update_in s t p body (state_of t p)) a b
     (λ waits trace. early_so a.setup (turn_of waits trace a) p body s other
-      ∙ ap (λ (x : State). update_in a.setup (turn_of waits trace a) p body x) (sym is)) d
+    ∙ ap (λ (x : State). update_in a.setup (turn_of waits trace a) p body x) (sym is)) d
 
 -- what a message does, by its type and its body
 abbrev pub by_kind : Setup → ℕ → ℕ → List ℕ → Turn → Turn

@@ -1,7 +1,7 @@
 -- What the rows of the session machine say of closing.
-use Rattle.std.proofs.Common.{◌≡◌, ◌≤◌, ◌<◌, ◌-◌, refl, sym, ◌∙◌, ap, subst, ℕ, Bool, true, false, List, [], ◌∷◌, ◌++◌, length, arith, replicate}
+use Rattle.std.proofs.Common.{◌≡◌, ◌<◌, ◌-◌, refl, sym, ◌∙◌, ap, subst, ℕ, Bool, true, false, List, [], ◌∷◌}
+use Rattle.std.proofs.Common.{◌++◌, length, arith}
 use Rattle.std.specs.Prelude.{◌||◌, slice_index_or}
-use Rattle.std.specs.List.{slice_set}
 use Rattle.std.proofs.lemmas.List.{get_or-set_same, get_or-replicate}
 use Rattle.bgp_fsm.specs.declared.State.{State}
 use Rattle.bgp_fsm.specs.declared.State.TheVariants.{Idle, Connect, OpenSent, OpenConfirm, Established}
@@ -9,7 +9,8 @@ use Rattle.bgp_fsm.specs.declared.Stimulus.{Stimulus}
 use Rattle.bgp_fsm.specs.declared.Stimulus.TheVariants as stimuli
 use Rattle.bgp_fsm.specs.declared.Act.{Act}
 use Rattle.bgp_fsm.specs.declared.Act.TheVariants.{SendNotice, Close}
-use Rattle.bgp_fsm.specs.Sessions.{Session, Owned, Reaction, row, row_at, close, close_with, down_if_up, held_on, stay, is_live}
+use Rattle.bgp_fsm.specs.Sessions.{Session, Owned, Reaction, row, row_at, close, close_with, down_if_up, held_on}
+use Rattle.bgp_fsm.specs.Sessions.{stay, is_live}
 use Rattle.xb_wire.specs.declared.numbers.TheConstants.{CEASE, FSM_ERROR, HOLD_TIMER_EXPIRED, UNSPECIFIC}
 use Rattle.spk_model.specs.Sources.{session_of, is_wide}
 use Rattle.spk_session.specs.declared.links.Links.{Links}
@@ -115,12 +116,12 @@ update_stays own s now is = ap (λ (x : State). row_at x own s now stimuli.Updat
 -- the session of a peer after it was written
 pub session_after : (l new : Links) (p : ℕ) (what : Stimulus) → HasPeer l p → (new.sessions).items ≡ reacted l p what
     → session_of (new.sessions).items p
-      ≡ record (session_of (l.sessions).items p) { session = (reaction_of l p what).session }
+    ≡ record (session_of (l.sessions).items p) { session = (reaction_of l p what).session }
 session_after l new p what peer is =
     let inside : p - 1 < length (l.sessions).items = omega (arith, peer.0, peer.1) in
     ap (λ (ss : List Owned). session_of ss p) is
     ∙ get_or-set_same (l.sessions).items (p - 1)
-      (record (session_of (l.sessions).items p) { session = (reaction_of l p what).session }) (session_of [] p) inside
+    (record (session_of (l.sessions).items p) { session = (reaction_of l p what).session }) (session_of [] p) inside
 
 left_by : (b : Bool) (l new : Links) (p : ℕ) → IsEven l → HasPeer l p → IsCalm l
     → (b || is_live (state_in new p)) ≡ true → (new.dropped).items ≡ flags_after p b (l.dropped).items → IsLeft p l new
@@ -137,7 +138,7 @@ left_by false l new p even peer calm goes flags =
     ∙ get_or-replicate (length (l.sessions).items) (p - 1) false false inside in
     subst (λ (f : Bool). LeftBy f p l new) (sym down) (flags, goes)
 
--- after a stimulus to a live session either its flag is up, or it is live
+-- after a stimulus to a live session either its flag is set, or it is live
 pub left_after : (l new : Links) (p : ℕ) (what : Stimulus) → IsEven l → HasPeer l p → IsCalm l
     → is_live (state_in l p) ≡ true → (new.sessions).items ≡ reacted l p what
     → (new.dropped).items ≡ flags_after p (closes (reaction_of l p what).acts) (l.dropped).items → IsLeft p l new

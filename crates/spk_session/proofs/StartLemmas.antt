@@ -1,5 +1,6 @@
 -- A host before its first event.
-use Rattle.std.proofs.Common.{◌≡◌, ◌≤◌, refl, sym, ◌∙◌, ap, subst, ℕ, zero, suc, Bool, false, List, [], ◌∷◌, length, map, arith, replicate}
+use Rattle.std.proofs.Common.{◌≡◌, ◌≤◌, refl, sym, ◌∙◌, ap, subst, ℕ, zero, suc, Bool, false, List, [], ◌∷◌, length}
+use Rattle.std.proofs.Common.{map, arith, replicate}
 use Rattle.std.proofs.lemmas.List.{length-replicate}
 use Rattle.std.proofs.lemmas.List.Elements.{All-replicate}
 use Rattle.std.proofs.lemmas.Simd.{splat_is_map}
@@ -11,7 +12,7 @@ use Rattle.spk_model.specs.declared.host.Setup.{Setup}
 use Rattle.spk_model.specs.Routing.{Routing}
 use Rattle.spk_model.specs.Turning.{Speaker, start_of, start_routing}
 use Rattle.spk_session.specs.declared.links.Links.{Links}
-use Rattle.spk_session.specs.Meaning.{core_of, kept, IsReady}
+use Rattle.spk_session.specs.Meaning.{core_of, kept}
 use Rattle.spk_session.specs.Taking.{IsDrained}
 use Rattle.spk_session.specs.Hosting.{waits_of, shown, AreDrained, IsSound}
 use Rattle.spk_session.specs.Starting.{own_session, IsStart}
@@ -68,21 +69,21 @@ start_shown setup routing hold count l frames all own s made routes =
     let peers = (setup.config).peers in
     let sessions : (l.sessions).items ≡ map (λ _. own_session (setup.config).hold) peers =
     s.sessions ∙ ap (λ (h : ℕ). replicate count (own_session h)) own
-      ∙ splat_is_map peers count (own_session (setup.config).hold) (sym all) in
+    ∙ splat_is_map peers count (own_session (setup.config).hold) (sym all) in
     let rests : (l.rests).items ≡ map (λ _. []) peers = s.rests ∙ splat_is_map peers count [] (sym all) in
     let waits : kept (l.dropped).items (waits_of frames) ≡ map (λ _. []) peers =
     ap (λ (ds : List Bool). kept ds (waits_of frames)) s.flags ∙ kept-calm count (waits_of frames)
-      ∙ ap waits_of made ∙ waits_made count ∙ splat_is_map peers count [] (sym all) in
+    ∙ ap waits_of made ∙ waits_made count ∙ splat_is_map peers count [] (sym all) in
     ap (λ (r : Routing). shown frames (core_of setup r l)) routes
     ∙ ap (λ (n : ℕ). speaker_with setup n (l.sessions).items (l.rests).items (kept (l.dropped).items (waits_of frames)))
-      s.clock
+    s.clock
     ∙ ap (λ (xs : List Owned). speaker_with setup 0 xs (l.rests).items (kept (l.dropped).items (waits_of frames)))
-      sessions
+    sessions
     ∙ ap
-      (λ (xs : List (List ℕ)). speaker_with setup 0 (map (λ _. own_session (setup.config).hold) peers) xs
-          (kept (l.dropped).items (waits_of frames)))
-      rests
+    (λ (xs : List (List ℕ)). speaker_with setup 0 (map (λ _. own_session (setup.config).hold) peers) xs
+    (kept (l.dropped).items (waits_of frames)))
+    rests
     ∙ ap
-      (λ (xs : List (List ℕ)). speaker_with setup 0 (map (λ _. own_session (setup.config).hold) peers)
-          (map (λ _. []) peers) xs)
-      waits
+    (λ (xs : List (List ℕ)). speaker_with setup 0 (map (λ _. own_session (setup.config).hold) peers)
+    (map (λ _. []) peers) xs)
+    waits

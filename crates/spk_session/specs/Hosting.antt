@@ -6,7 +6,7 @@ use Rattle.xb_domain.specs.Events.{Event}
 use Rattle.bgp_frame.specs.Waiting.{Waiting}
 use Rattle.spk_model.specs.Choosing.{Trace}
 use Rattle.spk_model.specs.Turning.{Speaker, turn}
-use Rattle.spk_session.specs.Meaning.{Core, IsReady, IsCalm, speaker_of, turn_of, kept}
+use Rattle.spk_session.specs.Meaning.{Core, IsReady, IsCalm, speaker_of, turn_of}
 use Rattle.spk_session.specs.Taking.{IsDrained}
 
 -- the octets in the buffers of all peers
@@ -31,7 +31,7 @@ shown frames c = speaker_of (waits_of frames) c
 
 -- buffers and both halves went on as the definition says of an event, if the flags are looked at
 pub record Turns (rule : Packing) (event : Event) (frames : List Waiting) (old : Core) (frames' : List Waiting)
-  (new : Core) : Type 0 where
+    (new : Core) : Type 0 where
   pub ready : IsReady new
   pub setup : new.setup ≡ old.setup
   pub count : length frames' ≡ length frames

@@ -1,5 +1,5 @@
 -- What is kept of the peers before the first event (this project's own).
-use Rattle.std.specs.Prelude.{◌≡◌, ℕ, List, [], replicate, false}
+use Rattle.std.specs.Prelude.{◌≡◌, ℕ, [], replicate, false}
 use Rattle.xb_wire.specs.declared.numbers.TheConstants.{MAX_MESSAGE}
 use Rattle.bgp_fsm.specs.Sessions.{Owned, start_session}
 use Rattle.spk_session.specs.declared.links.Links.{Links}

@@ -19,7 +19,7 @@ pub record Ends (p : ℕ) (left : List ℕ) (c : Core) (left' : List ℕ) (c' : 
   pub setup : c'.setup ≡ c.setup
   pub speaker : (waits : List (List ℕ)) (trace : Trace) (m : ℕ) → length left ≤ m → p - 1 < length waits
       → (take_turns c.setup m (turn_of (slice_set waits (p - 1) left) trace c) p).speaker
-        ≡ speaker_of (slice_set waits (p - 1) left') c'
+      ≡ speaker_of (slice_set waits (p - 1) left') c'
   pub outputs : (waits : List (List ℕ)) (trace : Trace) (m : ℕ) → length left ≤ m → p - 1 < length waits
       → (take_turns c.setup m (turn_of (slice_set waits (p - 1) left) trace c) p).outputs ≡ (c'.links).outputs
 
@@ -84,6 +84,6 @@ pub record Receives (p : ℕ) (bytes : List ℕ) (w : List ℕ) (c : Core) (w' :
   pub setup : c'.setup ≡ c.setup
   pub speaker : (waits : List (List ℕ)) (trace : Trace) → p - 1 < length waits
       → (octets_in c.setup (turn_of (slice_set waits (p - 1) w) trace c) p bytes).speaker
-        ≡ speaker_of (slice_set waits (p - 1) w') c'
+      ≡ speaker_of (slice_set waits (p - 1) w') c'
   pub outputs : (waits : List (List ℕ)) (trace : Trace) → p - 1 < length waits
       → (octets_in c.setup (turn_of (slice_set waits (p - 1) w) trace c) p bytes).outputs ≡ (c'.links).outputs

@@ -57,7 +57,7 @@ fn drop_closed(links: &mut Links, frames: &mut Vec<Frames>)
     links.dropped.fill(false);
 }
 
-// What an event does. Octets whose flag is up are still in the buffers.
+// What an event does. Octets whose flag is set are still in the buffers.
 fn turn<R: Routes>(
     alloc: Global,
     links: &mut Links,
@@ -67,7 +67,8 @@ fn turn<R: Routes>(
 ) -> Result<(), AllocError>
     requires sound { IsSound frames.old.items (core_of (R.built_from routes.old) (R.routing routes.old) links.old) }
     requires configured { AreConfigured (R.built_from routes.old)
-        (shown frames.old.items (core_of (R.built_from routes.old) (R.routing routes.old) links.old)) (event_view event) }
+        (shown frames.old.items (core_of (R.built_from routes.old) (R.routing routes.old) links.old))
+        (event_view event) }
     ensures { OnOk result (Turns R.RULE (event_view event.entry)
         frames.old.items (core_of (R.built_from routes.old) (R.routing routes.old) links.old)
         frames.new.items (core_of (R.built_from routes.new) (R.routing routes.new) links.new)) }
@@ -124,12 +125,7 @@ impl<R: Routes> Host for Sessions<R> {
         })
     }
 
-    fn step(
-        self,
-        alloc: Global,
-        event: Event<'_>,
-        out: &mut Outputs,
-    ) -> Result<Self, AllocError> {
+    fn step(self, alloc: Global, event: Event<'_>, out: &mut Outputs) -> Result<Self, AllocError> {
         let Sessions {
             mut frames,
             mut links,

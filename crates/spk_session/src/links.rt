@@ -69,7 +69,8 @@ impl Rest {
         requires { count ≤ length self.old }
         ensures { self.new ≡ drop count self.old }
     {
-        self.at += count;
+        let left = self.as_slice().len() - count;
+        self.at = self.message.len() - left;
     }
 
     /// Becomes the next message that a peer is to be told; it is false if nothing waits, and then nothing changed.
@@ -83,6 +84,7 @@ impl Rest {
         ensures less { result ≡ true
             → length (waiting (R.routing routes.new) peer) < length (waiting (R.routing routes.old) peer) }
     {
+        self.message.clear();
         self.at = 0;
         routes.next_message(peer, &mut self.message)
     }

@@ -24,7 +24,8 @@ use bgp_fsm::{State, Stimulus};
 use bgp_open::{OpenWant, read_open4};
 use std::alloc::{AllocError, Global};
 use xb_wire::numbers::{
-    BAD_MESSAGE_LENGTH, BAD_MESSAGE_TYPE, CONNECTION_NOT_SYNCHRONIZED, MESSAGE_HEADER_ERROR, NOTIFICATION, OPEN, UPDATE,
+    BAD_MESSAGE_LENGTH, BAD_MESSAGE_TYPE, CONNECTION_NOT_SYNCHRONIZED, MESSAGE_HEADER_ERROR,
+    NOTIFICATION, OPEN, UPDATE,
 };
 use xb_wire::{HeaderFault, Notice};
 use xbgp_config::Config;
@@ -44,7 +45,11 @@ fn fault_of_update(body: &[u8], wide: bool) -> Option<Notice<'_>>
     ensures fault { option_map notice_view result ≡ judge (width_of wide) body.now }
     ensures data { IfSome result (λ n. length n.extra.now ≤ MAX_NOTICE_DATA) }
 {
-    let judged = if wide { check_update4(body) } else { check_update(body) };
+    let judged = if wide {
+        check_update4(body)
+    } else {
+        check_update(body)
+    };
     match judged {
         Ok(_) => None,
         Err(notice) => Some(notice),
@@ -97,19 +102,49 @@ pub(crate) fn refuse_header<R: Routes>(
         HeaderFault::Marker => {
             let subcode = CONNECTION_NOT_SYNCHRONIZED;
             let extra = &[];
-            refuse(alloc, links, routes, peer, &Notice { code, subcode, extra })
+            refuse(
+                alloc,
+                links,
+                routes,
+                peer,
+                &Notice {
+                    code,
+                    subcode,
+                    extra,
+                },
+            )
         }
         HeaderFault::Length(len) => {
             let subcode = BAD_MESSAGE_LENGTH;
             let field = len.to_be_bytes();
             let extra = &field;
-            refuse(alloc, links, routes, peer, &Notice { code, subcode, extra })
+            refuse(
+                alloc,
+                links,
+                routes,
+                peer,
+                &Notice {
+                    code,
+                    subcode,
+                    extra,
+                },
+            )
         }
         HeaderFault::Kind(kind) => {
             let subcode = BAD_MESSAGE_TYPE;
             let field = [kind];
             let extra = &field;
-            refuse(alloc, links, routes, peer, &Notice { code, subcode, extra })
+            refuse(
+                alloc,
+                links,
+                routes,
+                peer,
+                &Notice {
+                    code,
+                    subcode,
+                    extra,
+                },
+            )
         }
     }
 }
@@ -129,7 +164,7 @@ fn judged_open<R: Routes>(
     requires least { PARAMETERS ≤ length body.now }
     ensures does { OnOk result (Does
         (λ setup t. turning.judged_open setup t peer body.now
-            (judge_open4 body.now (entry_of setup.config peer).asn))
+        (judge_open4 body.now (entry_of setup.config peer).asn))
         (core_of (R.built_from routes.old) (R.routing routes.old) links.old)
         (core_of (R.built_from routes.new) (R.routing routes.new) links.new)) }
     ensures left { OnOk result (IsLeft peer links.old links.new) }
@@ -193,7 +228,7 @@ fn judged_update<R: Routes>(
     requires short { length body.now ≤ MAX_BODY }
     ensures does { OnOk result (Does
         (λ setup t. turning.judged_update setup t peer body.now
-            (judge (width_of (is_wide (t.speaker).sessions peer)) body.now))
+        (judge (width_of (is_wide (t.speaker).sessions peer)) body.now))
         (core_of (R.built_from routes.old) (R.routing routes.old) links.old)
         (core_of (R.built_from routes.new) (R.routing routes.new) links.new)) }
     ensures left { OnOk result (IsLeft peer links.old links.new) }

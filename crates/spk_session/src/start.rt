@@ -6,8 +6,8 @@ ghost use Rattle.xbgp_config.specs.declared.limits.TheConstants.{MAX_PEERS};
 ghost use Rattle.spk_session.specs.Starting.{own_session, IsStart};
 
 use crate::links::{Links, Rest};
-use bgp_fsm::Session;
 use bgp_frame::Frames;
+use bgp_fsm::Session;
 use std::alloc::{AllocError, Global};
 use xb_domain::Outputs;
 use xb_values::Buf;

@@ -1,4 +1,4 @@
-use Rattle.std.proofs.Common.{sym, ◌∙◌, ap, Bool, List, Option}
+use Rattle.std.proofs.Common.{sym, ◌∙◌, ap, Bool, List}
 use Rattle.std.specs.Option.{option_map}
 use Rattle.xb_wire.specs.Views.{notice_view}
 use Rattle.bgp_attr.specs.Paths.{width_of}
@@ -17,8 +17,8 @@ update-requires-clause-good g c =
     let own = c.index.result.now in
     ap (λ (ss : List Owned). judge (width_of (is_wide ss p)) c.args.body.now) c.deref.ensures.value
     ∙ ap (λ (b : Bool). judge (width_of b) c.args.body.now)
-      (wide_after l c.react.new.links p c.requires.peer c.requires.established c.in_ok-react.ensures.sessions
-        ∙ sym (c.wide-wide.ensures
-          ∙ ap (λ (x : Owned). (x.session).wide) (session_read l p own c.requires.peer c.index.ensures)))
+    (wide_after l c.react.new.links p c.requires.peer c.requires.established c.in_ok-react.ensures.sessions
+    ∙ sym (c.wide-wide.ensures
+    ∙ ap (λ (x : Owned). (x.session).wide) (session_read l p own c.requires.peer c.index.ensures)))
     ∙ sym c.fault_of_update.ensures.fault
     ∙ ap (option_map notice_view) c.in_default.is

@@ -12,7 +12,7 @@ pub returns-clause-does : goal.returns-clause-does
 returns-clause-does g c =
     let a = core_of (g.R.Routes.built_from c.args.routes.now) (g.R.Routes.routing c.args.routes.now) c.args.links.now in
     let b = core_of (g.R.Routes.built_from c.react.new.routes) (g.R.Routes.routing c.react.new.routes)
-      c.react.new.links in
+    c.react.new.links in
     on_ok_weaker c.react.result (λ d. refused c.args.peer (notice_view c.args.notice.now) a b d) c.react.ensures.does
 
 pub returns-clause-closed : goal.returns-clause-closed
@@ -23,6 +23,6 @@ returns-clause-closed g c =
     let n = notice_view c.args.notice.now in
     on_ok_weaker c.react.result
     (λ flags. flags
-        ∙ ap (λ (b : Bool). flags_after p b l.dropped.items)
-          (fault_closes s.own s.session l.clock n.code n.subcode c.requires.live))
+    ∙ ap (λ (b : Bool). flags_after p b l.dropped.items)
+    (fault_closes s.own s.session l.clock n.code n.subcode c.requires.live))
     c.react.ensures.flags

@@ -1,10 +1,7 @@
-use Rattle.std.proofs.Common.{◌≡◌, ◌≤◌, refl, sym, ◌∙◌, ap, subst, fold, take, length, List, arith, ◌+◌}
-use Rattle.bgp_fsm.specs.declared.Act.{Act}
-use Rattle.spk_model.specs.Turning.{act}
-use Rattle.spk_session.specs.Meaning.{core_of, Does}
-use Rattle.spk_session.specs.Acting.{closes, flags_after}
+use Rattle.std.proofs.Common.{refl, ◌∙◌, take, ◌+◌}
+use Rattle.spk_session.specs.Meaning.{core_of}
 use Rattle.spk_session.proofs.Following.{does_nothing}
-use Rattle.spk_session.proofs.ActLemmas.{acts_more, act_then, all_acts, flags-push, same_peer}
+use Rattle.spk_session.proofs.ActLemmas.{acts_more, act_then, flags-push, same_peer}
 use Rattle.spk_session.proofs.react.act_all.Goals as goal
 
 pub acts-init : goal.acts-init
@@ -28,9 +25,9 @@ acts-preserved g c =
     let i = c.acts.i in
     record {
       does = act_then acts i c.get.result c.args.peer c.args.extra.now a b d c.get.ensures c.acts.invariant.does
-        c.in_ok-act.ensures.does;
+          c.in_ok-act.ensures.does;
       sessions = c.in_ok-act.ensures.sessions ∙ c.acts.invariant.sessions;
       flags = flags-push c.args.peer (take i acts) (take (i + 1) acts) c.get.result c.args.links.now.dropped.items
-        c.acts.links.dropped.items c.act.new.links.dropped.items (acts_more acts i c.get.result c.get.ensures)
-        c.acts.invariant.flags c.in_ok-act.ensures.flags;
+          c.acts.links.dropped.items c.act.new.links.dropped.items (acts_more acts i c.get.result c.get.ensures)
+          c.acts.invariant.flags c.in_ok-act.ensures.flags;
     }

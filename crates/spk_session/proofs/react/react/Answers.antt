@@ -17,14 +17,14 @@ returns-clause-does g c =
     let own = c.index_mut.result.now in
     let what = c.args.what in
     let d = core_of (g.R.Routes.built_from c.act_all.new.routes) (g.R.Routes.routing c.act_all.new.routes)
-      c.act_all.new.links in
+    c.act_all.new.links in
     on_ok_weaker c.act_all.result
     (λ e. react_done s r c.args.links.now c.args.peer what c.args.extra.now own c.on-acts.new.self c.on-acts.result d
-        c.requires.ready c.requires.peer c.index_mut.ensures.value
-        (c.on-acts.ensures.acts ∙ ap (λ (n : ℕ). (row own.own own.session n what).acts) c.from.ensures)
-        (c.on-acts.ensures.after
-          ∙ ap (λ (n : ℕ). record own { session = (row own.own own.session n what).session }) c.from.ensures)
-        e)
+    c.requires.ready c.requires.peer c.index_mut.ensures.value
+    (c.on-acts.ensures.acts ∙ ap (λ (n : ℕ). (row own.own own.session n what).acts) c.from.ensures)
+    (c.on-acts.ensures.after
+    ∙ ap (λ (n : ℕ). record own { session = (row own.own own.session n what).session }) c.from.ensures)
+    e)
     c.act_all.ensures.does
 
 pub returns-clause-left : goal.returns-clause-left
@@ -35,11 +35,11 @@ returns-clause-left g c calm live =
     let own = c.index_mut.result.now in
     on_ok_two c.act_all.result
     (λ sessions flags. left_after l c.act_all.new.links p what (c.requires.ready).even c.requires.peer calm live
-        (ap (λ (ss : Vec Owned Global). ss.items) sessions
-          ∙ reacted_so l p what own c.on-acts.new.self c.from.result c.requires.peer c.index_mut.ensures.value
-            c.from.ensures c.on-acts.ensures.after)
-        (flags
-          ∙ ap (λ (acts : List Act). flags_after p (closes acts) l.dropped.items)
-            (acts_so l p what own c.from.result c.on-acts.result c.requires.peer c.index_mut.ensures.value
-              c.from.ensures c.on-acts.ensures.acts)))
+    (ap (λ (ss : Vec Owned Global). ss.items) sessions
+    ∙ reacted_so l p what own c.on-acts.new.self c.from.result c.requires.peer c.index_mut.ensures.value
+    c.from.ensures c.on-acts.ensures.after)
+    (flags
+    ∙ ap (λ (acts : List Act). flags_after p (closes acts) l.dropped.items)
+    (acts_so l p what own c.from.result c.on-acts.result c.requires.peer c.index_mut.ensures.value
+    c.from.ensures c.on-acts.ensures.acts)))
     c.act_all.ensures.sessions c.act_all.ensures.flags

@@ -1,5 +1,4 @@
-use Rattle.std.proofs.Common.{◌≡◌, replicate, []}
-use Rattle.bgp_frame.specs.Waiting.{Waiting}
+use Rattle.std.proofs.Common.{◌≡◌, replicate}
 use Rattle.spk_session.specs.Starting.{own_session}
 use Rattle.spk_session.proofs.start.make_sessions.Given as goal
 
