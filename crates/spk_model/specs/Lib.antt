@@ -1,0 +1,12 @@
+pub mod Sources
+pub mod Choosing
+pub mod Tournaments
+pub mod Exporting
+pub mod Routing
+pub mod Turning
+pub mod Readers
+pub mod Reports
+pub mod Playing
+pub mod Names
+pub mod Ends
+pub mod Laws
