@@ -1,5 +1,5 @@
 //! What a host is made of, and what every host meets.
-ghost use Rattle.std.specs.Prelude.{◌≡◌, ◌≤◌, ◌<◌, ◌++◌, List, [], length, take, Some, OnOk, IfOk};
+ghost use Rattle.std.specs.Prelude.{◌≡◌, ◌≤◌, ◌<◌, ◌++◌, List, length, take, Some, OnOk, IfOk};
 ghost use Rattle.std.specs.Option.{option_map};
 ghost use Rattle.xb_domain.specs.Views.{event_view};
 ghost use Rattle.xb_domain.specs.declared.output.Packing.{Packing};
@@ -47,7 +47,6 @@ pub trait Host: Sized + Drop {
 
     /// A speaker before its first event.
     fn make(alloc: Global, setup: Setup) -> Result<Self, AllocError>
-        requires no_programs { (setup.manifest).programs ≡ [] }
         ensures setup { IfOk result (λ h. built_from h ≡ setup) }
         ensures speaker { IfOk result (λ h. speaker h ≡ start_of setup) };
 
