@@ -3,6 +3,7 @@
 //! The configuration and the manifest are read and judged first, in this order. What a log gives, and the writing of it,
 //! is `spk_model`'s.
 ghost use Rattle.std.specs.Prelude.{◌≢◌};
+ghost use Rattle.xb_io.specs.Causes.{Files};
 ghost use Rattle.xbgp_top.specs.Answers.{replay_answer, setup_input};
 ghost use Rattle.xbgp_top.specs.Inputs.{Obtains};
 ghost use Rattle.xbgp_top.specs.Top.{Explains};
@@ -37,8 +38,9 @@ pub(crate) fn replay_on<H: Host, S: Shelf, K: Sink>(
     shelf: &mut S,
     sink: &mut K,
 ) -> Status
-    ensures explains { let told = λ files. replay_answer H.RULE (setup_input config.now manifest.now files) log.now files in
-        Explains S.held S.faults K.took K.faults shelf.old shelf.new sink.old sink.new told result }
+    ensures explains { let setup = setup_input config.now manifest.now in
+        Explains S.held S.faults K.took K.faults shelf.old shelf.new sink.old sink.new
+            (λ (files : Files). replay_answer H.RULE (setup files) log.now files) result }
     ensures command { result ≢ Status.Usage }
 {
     match setup_named(alloc, config, manifest, shelf) {
