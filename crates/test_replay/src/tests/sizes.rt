@@ -62,7 +62,8 @@ fn push_long(text: &mut Vec<u8>, front: &str, zeros: usize, end: &str) -> Result
         text.extend_from_slice(b"00")?;
     }
     text.extend_from_slice(end.as_bytes())?;
-    text.push(b'\n')
+    text.push(b'\n')?;
+    Ok(())
 }
 
 fn log_of(alloc: Global, long: &Long) -> Result<Vec<u8>, AllocError> {
