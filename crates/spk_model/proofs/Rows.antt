@@ -30,8 +30,10 @@ use Rattle.spk_native.specs.Decision.{survivors}
 use Rattle.spk_native.specs.Receipt.{inflow, narrow}
 use Rattle.spk_model.specs.Tournaments.{choose}
 use Rattle.spk_model.specs.Exporting.{exported}
-use Rattle.spk_model.specs.Routing.{decide, export, settle, settle_all, export_all, announce_one, receive_route, announce, withdraw, update, lose}
-use Rattle.spk_model.specs.Turning.{control, act, react, emit_turns, emit, refuse, open_in, update_in, message_in, take_turns, octets_in, time_turns, time_to, turn, event, history}
+use Rattle.spk_model.specs.Routing.{decide, export, settle, settle_all, export_all, announce_one, receive_route}
+use Rattle.spk_model.specs.Routing.{announce, withdraw, update, lose}
+use Rattle.spk_model.specs.Turning.{control, act, react, emit_turns, emit, refuse, open_in, update_in, message_in}
+use Rattle.spk_model.specs.Turning.{take_turns, octets_in, time_turns, time_to, turn, event, history}
 
 -- a speaker of AS 65000 with three peers; the first one's AS is given
 abbrev pub peers_from : ℕ → List Prefix → Config

@@ -1,7 +1,7 @@
 -- Laws over all histories (this project's own). Each is a statement; those that a public function has as its contract
 -- are proved.
-use Rattle.std.specs.Prelude.{◌≡◌, ◌≢◌, ◌⊎◌, ◌<◌, ℕ, ◌+◌, ◌^◌, Bool, true, false, not, IsTrue, List, [], ◌∷◌, ◌++◌}
-use Rattle.std.specs.Prelude.{◌-◌, length, map, filter, flat_map, take, Option, Some, None, Ok, ◌==◌, ◌&&◌, ◌||◌}
+use Rattle.std.specs.Prelude.{◌≡◌, ◌≢◌, ◌⊎◌, ◌<◌, ℕ, ◌^◌, Bool, true, false, not, List, [], ◌∷◌, ◌++◌}
+use Rattle.std.specs.Prelude.{◌-◌, length, map, filter, flat_map, take, Option, Some, Ok, ◌==◌, ◌&&◌, ◌||◌}
 use Rattle.std.specs.Prelude.{if◌then◌else◌}
 use Rattle.std.specs.List.{list_any, slice_get, slice_index_or, list_all}
 use Rattle.std.specs.List.Sorted.{IsStrictlySortedBy}
@@ -33,7 +33,7 @@ use Rattle.xbgp_points.specs.Points.{Engine, encode, given_section}
 use Rattle.spk_model.specs.declared.host.Setup.{Setup}
 use Rattle.spk_model.specs.Sources.{entry_of, session_of, is_up, is_wide}
 use Rattle.spk_model.specs.Choosing.{Trace}
-use Rattle.spk_model.specs.Routing.{Tables, Routing, tables_of}
+use Rattle.spk_model.specs.Routing.{Tables, tables_of}
 use Rattle.spk_model.specs.Turning.{Speaker, put, event, trace, history, start_of}
 use Rattle.spk_model.specs.Readers.{AreConfigured, IsPeer}
 
@@ -64,7 +64,8 @@ AreEvents rule setup s (e ∷ es) =
 -- a speaker that some list of events gives
 abbrev pub IsReached : Packing → Setup → Speaker → Type 0
 IsReached rule setup s =
-    (es : List Event) × AreEvents rule setup (start_of setup) es × (s ≡ (history rule setup (start_of setup) es).speaker)
+    (es : List Event) × AreEvents rule setup (start_of setup) es
+    × (s ≡ (history rule setup (start_of setup) es).speaker)
 
 -- the state of a peer's session
 abbrev pub state_in : Speaker → ℕ → State
@@ -129,7 +130,8 @@ untold t = record t { told = [] }
 abbrev pub without_telling : Speaker → Speaker
 without_telling s = record s {
   rests = map (λ _. []) s.rests;
-  routing = record s.routing { tables = map untold (s.routing).tables } }
+  routing = record s.routing { tables = map untold (s.routing).tables };
+}
 
 -- octets left for a peer
 abbrev pub is_sent : Output → Bool
@@ -147,10 +149,9 @@ rule_free = (setup : Setup) (es : List Event) → IsSetup setup → AreEvents Gr
 
 -- ---- pieces
 
--- octets that come in two pieces do what they do in one
+-- octets that come in two pieces do what they do in one, whatever the speaker is
 abbrev pub cutting : Type 0
-cutting = (rule : Packing) (setup : Setup) (s : Speaker) (p : ℕ) (a b : List ℕ) → IsSetup setup
-    → IsReached rule setup s → IsPeer setup p
+cutting = (rule : Packing) (setup : Setup) (s : Speaker) (p : ℕ) (a b : List ℕ)
     → event rule setup s (octets p (a ++ b)) ≡ history rule setup s (octets p a ∷ octets p b ∷ [])
 
 -- ---- damage
@@ -160,11 +161,11 @@ abbrev pub Refuses : Setup → Speaker → ℕ → List ℕ → Notification →
 Refuses setup s p bytes n =
     (is_live (state_in s p) ≡ true)
     × ((front_fault bytes ≡ Some n)
-      ⊎ ((size : ℕ) × (message_size bytes ≡ Some size)
-        × (((message_kind bytes ≡ OPEN) × (state_in s p ≡ OpenSent)
-            × (judge_open4 (message_body (take size bytes)) (entry_of setup.config p).asn ≡ Some n))
-          ⊎ ((message_kind bytes ≡ UPDATE) × (state_in s p ≡ Established)
-            × (judge (width_of (is_wide s.sessions p)) (message_body (take size bytes)) ≡ Some n)))))
+    ⊎ ((size : ℕ) × (message_size bytes ≡ Some size)
+    × (((message_kind bytes ≡ OPEN) × (state_in s p ≡ OpenSent)
+    × (judge_open4 (message_body (take size bytes)) (entry_of setup.config p).asn ≡ Some n))
+    ⊎ ((message_kind bytes ≡ UPDATE) × (state_in s p ≡ Established)
+    × (judge (width_of (is_wide s.sessions p)) (message_body (take size bytes)) ≡ Some n)))))
 
 -- the event of some octets, if there are any
 abbrev pub octets_event : ℕ → List ℕ → List Event
@@ -175,18 +176,17 @@ octets_event p (b ∷ bytes) = octets p (b ∷ bytes) ∷ []
 abbrev pub notice_of : Notification → List ℕ
 notice_of n = written.notice_message n.code n.subcode n.extra
 
--- a message that is refused does what the loss of the link would do at its first octet, and sends a NOTIFICATION; x is
--- the piece before that octet
+-- a message that is refused does what the loss of the link would do at its first octet, and sends a NOTIFICATION before;
+-- x is the piece before that octet
 abbrev pub damage : Type 0
-damage = (rule : Packing) (setup : Setup) (s : Speaker) (p : ℕ) (x y : List ℕ) (n : Notification) → IsSetup setup
+damage = (rule : Packing) (setup : Setup) (s : Speaker) (p : ℕ) (x y : List ℕ) (n : Notification)
     → IsReached rule setup s → IsPeer setup p →
     let first = history rule setup s (octets_event p x) in
     let lost = event rule setup first.speaker (down p) in
     let run = event rule setup s (octets p (x ++ y)) in
-    ((x ≡ []) ⊎ (wait_in first.speaker p ≡ []))
-    → Refuses setup first.speaker p (wait_in first.speaker p ++ y) n
+    Refuses setup first.speaker p (wait_in first.speaker p ++ y) n
     → (run.speaker ≡ lost.speaker)
-      × (run.outputs ≡ first.outputs ++ put p (rest_in first.speaker p) ++ put p (notice_of n) ++ lost.outputs)
+    × (run.outputs ≡ first.outputs ++ put p (rest_in first.speaker p) ++ put p (notice_of n) ++ lost.outputs)
 
 -- ---- one peer's event
 
@@ -233,7 +233,8 @@ stilled_program points p = if has_point points p.point then record p { code = ne
 
 abbrev pub stilled : List Point → Setup → Setup
 stilled points setup =
-    record setup { manifest = record setup.manifest { programs = map (stilled_program points) (setup.manifest).programs } }
+    let programs = map (stilled_program points) (setup.manifest).programs in
+    record setup { manifest = record setup.manifest { programs = programs } }
 
 -- the program of a number is at one of some points
 abbrev pub program_at : List Point → Manifest → ℕ → Bool

@@ -4,7 +4,9 @@ pub mod Tournaments
 pub mod Exporting
 pub mod Routing
 pub mod Turning
-pub mod Reports
 pub mod Readers
+pub mod Reports
 pub mod Playing
+pub mod Names
+pub mod Ends
 pub mod Laws

@@ -48,10 +48,11 @@ pub record Plays {S K : Type 0} (held : S → Option Files) (reads : S → ℕ)
   pub read_cause : played ≡ ReadFault
       → FaultsRose (reads shelf_old) (reads shelf_new) ⊎ IsMissing (held shelf_old) name
   pub write_cause : played ≡ WriteFault → FaultsRose (writes sink_old) (writes sink_new)
-  pub quiet_shelf : played ≢ ReadFault → played ≢ OutOfMemory → reads shelf_new ≡ reads shelf_old
+  pub quiet_shelf : played ≢ ReadFault → reads shelf_new ≡ reads shelf_old
   pub quiet_sink : played ≢ WriteFault → played ≢ OutOfMemory → writes sink_new ≡ writes sink_old
   pub later_shelf : reads shelf_old ≤ reads shelf_new
   pub later_sink : writes sink_old ≤ writes sink_new
+  pub same : held shelf_new ≡ held shelf_old
 
 -- what is still to come of a replay: outputs, the speaker after them, and how the log ends (for the loop of `replay`)
 pub record Coming : Type 0 where
@@ -71,4 +72,4 @@ coming rule setup text at n s =
 
 -- its text
 abbrev pub text_to_come : Setup → Coming → List ℕ
-text_to_come setup c = output_lines c.outputs ++ ending_text setup.manifest c.speaker c.ending
+text_to_come setup c = output_lines c.outputs ++ ending_text setup c.speaker c.ending

@@ -1,13 +1,12 @@
 -- What the readers of a host say, and which events a host takes (this project's own).
-use Rattle.std.specs.Prelude.{◌≡◌, ◌≤◌, ℕ, Bool, List, length, Option, Some, None}
-use Rattle.std.specs.List.{slice_get}
+use Rattle.std.specs.Prelude.{◌≤◌, ℕ, Bool, List, [], length, Option, Some, None}
 use Rattle.xb_words.specs.Table.{entry_after, has_key}
 use Rattle.xb_domain.specs.Events.{Event}
 use Rattle.replay_log.specs.Lines.{IsFor}
 use Rattle.xb_values.specs.Buffers.{Buffer}
 use Rattle.xb_values.specs.Prefixes.{Prefix, prefix_cmp}
 use Rattle.bpf_machine.specs.declared.world.Cause.{Cause}
-use Rattle.xbgp_maps.specs.Mappings.{entry_after_in}
+use Rattle.xbgp_maps.specs.Mappings.{Mapping, mapping_at, entry_after_in}
 use Rattle.xbgp_points.specs.Chains.{fault_cmp}
 use Rattle.spk_model.specs.declared.host.Setup.{Setup}
 use Rattle.spk_model.specs.Routing.{Chosen, tables_of}
@@ -33,6 +32,14 @@ advertised_after s p after = entry_after prefix_cmp (tables_of s.routing p).adv 
 abbrev pub showing : Buffer → Option (List ℕ) → Buffer
 showing b None = b
 showing b (Some section) = record b { octets = section }
+
+-- the entries of a map by rising key; of a map that there is not, none
+abbrev pub entries_in : Option Mapping → List (List ℕ × List ℕ)
+entries_in None = []
+entries_in (Some m) = m.entries
+
+abbrev pub map_entries : Speaker → ℕ → List (List ℕ × List ℕ)
+map_entries s map = entries_in (mapping_at ((s.routing).engine).maps map)
 
 -- the entry of a map after a key, or its first
 abbrev pub map_entry_after : Speaker → ℕ → Option (List ℕ) → Option (List ℕ × List ℕ)

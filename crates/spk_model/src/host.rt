@@ -1,5 +1,5 @@
 //! What a host is made of, and what every host meets.
-ghost use Rattle.std.specs.Prelude.{◌≡◌, ◌≤◌, ◌<◌, ◌++◌, List, [], length, take, Some, OnOk, IfOk};
+ghost use Rattle.std.specs.Prelude.{◌≡◌, ◌≤◌, ◌<◌, ◌++◌, List, length, take, Some, OnOk, IfOk};
 ghost use Rattle.std.specs.Option.{option_map};
 ghost use Rattle.xb_domain.specs.Views.{event_view};
 ghost use Rattle.xb_domain.specs.declared.output.Packing.{Packing};
@@ -8,7 +8,11 @@ ghost use Rattle.bgp_attr.specs.declared.TheConstants.{MAX_CANONICAL};
 ghost use Rattle.spk_model.specs.Turning.{Speaker, start_of, event as happens};
 ghost use Rattle.spk_model.specs.Reports.{is_drained};
 ghost use Rattle.spk_model.specs.Readers.{AreConfigured, IsPeer, best_after, advertised_after, showing};
-ghost use Rattle.spk_model.specs.Readers.{map_entry_after, has_fault};
+ghost use Rattle.spk_model.specs.Readers.{map_entry_after, map_entries, has_fault};
+ghost use Rattle.spk_model.specs.Routing.{tables_of};
+ghost use Rattle.xb_words.specs.Table.{IsRising};
+ghost use Rattle.xb_values.specs.Prefixes.{prefix_cmp};
+ghost use Rattle.xbgp_maps.specs.Mappings.{key_cmp};
 
 use bpf_machine::Cause;
 use std::alloc::{AllocError, Global};
@@ -43,7 +47,6 @@ pub trait Host: Sized + Drop {
 
     /// A speaker before its first event.
     fn make(alloc: Global, setup: Setup) -> Result<Self, AllocError>
-        requires no_programs { (setup.manifest).programs ≡ [] }
         ensures setup { IfOk result (λ h. built_from h ≡ setup) }
         ensures speaker { IfOk result (λ h. speaker h ≡ start_of setup) };
 
@@ -62,6 +65,7 @@ pub trait Host: Sized + Drop {
     /// source, 0 for the speaker. Its canonical section replaces the content of `section`.
     fn route_after(&self, after: Option<Prefix>, section: &mut Buf) -> Option<(Prefix, u32)>
         requires { MAX_CANONICAL ≤ section.old.capacity }
+        ensures rising { IsRising prefix_cmp ((speaker self.now).routing).best }
         ensures route { result ≡ option_map (λ e. (e.0, (e.1).source)) (best_after (speaker self.now) after) }
         ensures section { section.new
             ≡ showing section.old (option_map (λ e. canon (e.1).route) (best_after (speaker self.now) after)) };
@@ -71,6 +75,7 @@ pub trait Host: Sized + Drop {
     fn adv_after(&self, peer: u32, after: Option<Prefix>, section: &mut Buf) -> Option<Prefix>
         requires room { MAX_CANONICAL ≤ section.old.capacity }
         requires peer { IsPeer (built_from self.now) peer }
+        ensures rising { IsRising prefix_cmp (tables_of (speaker self.now).routing peer).adv }
         ensures prefix { result ≡ option_map (λ e. e.0) (advertised_after (speaker self.now) peer after) }
         ensures section { section.new
             ≡ showing section.old (option_map (λ e. e.1) (advertised_after (speaker self.now) peer after)) };
@@ -83,7 +88,8 @@ pub trait Host: Sized + Drop {
     /// The entry of a map with the first key after `after`, or the first of all.
     fn map_after(&self, map: u32, after: Option<&[u8]>) -> Option<(&[u8], &[u8])>
         requires { map < length ((built_from self.now).manifest).maps }
-        ensures { option_map (λ e. (e.0.now, e.1.now)) result
+        ensures rising { IsRising key_cmp (map_entries (speaker self.now) map) }
+        ensures entry { option_map (λ e. (e.0.now, e.1.now)) result
             ≡ map_entry_after (speaker self.now) map (option_map (λ k. k.now) after.entry) };
 
     /// Whether a fault of a program with this cause was noted.

@@ -8,6 +8,8 @@ use Rattle.spk_native.specs.Values.{HasNoFault}
 use Rattle.xbgp_maps.specs.Mappings.{empty_maps}
 use Rattle.xbgp_manifest.specs.Manifests.{Manifest, entry_shapes}
 use Rattle.xbgp_points.specs.declared.outcome.Outcome.{Outcome}
+use Rattle.xbgp_points.specs.declared.outcome.Outcome.TheVariants.{Verdict, Native, Failed}
+use Rattle.xbgp_points.specs.Chains.{with_fault}
 use Rattle.xbgp_points.specs.Points.{Engine, Called}
 
 -- what contracts see of an engine
@@ -44,3 +46,14 @@ pub record KeepsRoute (before after : Route) : Type 0 where
   pub mandatory : HasMandatory before → HasMandatory after
   pub faultless : HasNoFault before → HasNoFault after
   pub short : length (canon before) ≤ MAX_MESSAGE → length (canon after) ≤ MAX_MESSAGE
+
+-- after a failure the set of faults has one more, nothing else has changed, and no write to a map was kept
+abbrev pub IsUndone : Outcome → Kept → Kept → Route → Route → Type 0
+IsUndone (Verdict v) old new before after = Unit {0}
+IsUndone Native old new before after = Unit {0}
+IsUndone (Failed program cause) old new before after =
+    (new ≡ record old {
+      engine = record (old.engine) { faults = with_fault (old.engine).faults program cause };
+      wrote = false;
+    })
+    × (after ≡ before)

@@ -1,14 +1,21 @@
 // The engine that runs chains.
-ghost use Rattle.std.specs.Prelude.{◌≡◌, ◌≤◌, [], length, map, IfOk, IfSome, IsTrue};
+ghost use Rattle.std.specs.Prelude.{◌≡◌, ◌≤◌, [], length, IfOk, IfSome, IsTrue};
 ghost use Rattle.xb_words.specs.Table.{has_key};
 ghost use Rattle.spk_native.specs.Export.{native_section};
 ghost use Rattle.xbgp_maps.specs.Mappings.{closed, shapes_of};
 ghost use Rattle.xbgp_manifest.specs.Manifests.{entry_shapes};
 ghost use Rattle.xbgp_points.specs.Chains.{fault_cmp, is_sendable};
-ghost use Rattle.xbgp_points.specs.Engines.{started, Answers, KeepsRoute};
+ghost use Rattle.xbgp_points.specs.Engines.{started, Answers, IsUndone, KeepsRoute};
 ghost use Rattle.xbgp_points.specs.Points.{encode, given_section, inbound, outbound, prefer, receive, section_left};
 
+use crate::decision::at_decision;
+use crate::encode::at_encode;
+use crate::inbound::at_inbound;
+use crate::order::{Orders, orders_of};
+use crate::outbound::at_outbound;
 use crate::outcome::Outcome;
+use crate::receive::at_receive;
+use crate::work::Work;
 use bgp_attr::MAX_CANONICAL;
 use bpf_machine::Cause;
 use std::alloc::{AllocError, Global};
@@ -16,8 +23,8 @@ use std::marker::Model;
 use xb_domain::Side;
 use xb_values::{Buf, Prefix};
 use xb_wire::numbers::MAX_BODY;
-use xbgp_manifest::{Manifest, MapEntries};
-use xbgp_maps::{MapShape, Maps};
+use xbgp_manifest::Manifest;
+use xbgp_maps::Maps;
 use xbgp_view::{Overlay, RouteView};
 
 /// Runs the programs of a manifest, and keeps its maps and the faults that were noted.
@@ -25,88 +32,94 @@ use xbgp_view::{Overlay, RouteView};
 pub struct Engine {
     manifest: Manifest,
     local: Side,
-    maps: Maps,
-    wrote: bool,
+    orders: Orders,
+    work: Work,
 }
 
 impl Model for Engine {
-    ghost use Rattle.std.specs.Prelude.{◌≡◌, []};
+    ghost use Rattle.std.specs.Prelude.{◌≡◌};
+    ghost use Rattle.bgp_attr.specs.declared.TheConstants.{MAX_CANONICAL};
     ghost use Rattle.xbgp_maps.specs.Mappings.{closed, shapes_of};
     ghost use Rattle.xbgp_manifest.specs.Manifests.{entry_shapes};
     ghost use Rattle.xbgp_points.specs.Engines.{Kept};
+    ghost use Rattle.xbgp_points.specs.Orders.{AreOrders};
 
     ghost Value = { Kept };
 
     ghost view = { λ e. record {
       manifest = e.manifest;
       local = e.local;
-      engine = record { maps = (e.maps).maps; faults = [] };
-      wrote = e.wrote;
+      engine = record { maps = (e.work.maps).maps; faults = e.work.faults };
+      wrote = e.work.wrote;
     } };
 
     ghost invariant = { λ e.
-        ((e.manifest).programs ≡ [])
-        × (e.maps ≡ closed (e.maps).maps)
-        × (shapes_of (e.maps).maps ≡ entry_shapes (e.manifest).maps) };
-}
-
-// The shapes of a manifest's maps, in order.
-fn shapes(alloc: Global, maps: &MapEntries) -> Result<Vec<MapShape>, AllocError>
-    ensures { IfOk result (λ v. v.items ≡ entry_shapes maps.now) }
-{
-    let mut shapes = Vec::with_capacity(alloc, maps.len())?;
-    'maps: for i in 0..maps.len() {
-        shapes.push(maps.get(i).shape)?;
-    }
-    Ok(shapes)
+        AreOrders (e.manifest).programs e.orders
+        × (e.work.maps ≡ closed (e.work.maps).maps)
+        × (shapes_of (e.work.maps).maps ≡ entry_shapes (e.manifest).maps)
+        × (e.work.section.capacity ≡ MAX_CANONICAL) };
 }
 
 impl Engine {
-    /// An engine of a manifest without programs, for the speaker itself as `local`. All memory that its calls need is
-    /// taken here. Err if there is no memory.
+    /// An engine of a manifest, for the speaker itself as `local`. All memory that its calls need is taken here. Err if
+    /// there is no memory.
     #[tactic(auto, using(crate::proofs::MapLemmas::shapes_of_empty))]
     pub fn make(alloc: Global, manifest: Manifest, local: Side) -> Result<Engine, AllocError>
-        requires { manifest.programs ≡ [] }
         ensures { IfOk result (λ e. e ≡ started manifest local) }
     {
-        let shapes = shapes(alloc, &manifest.maps)?;
-        let maps = Maps::make(alloc, &shapes)?;
+        let orders = orders_of(alloc, &manifest.programs)?;
+        let work = Work::make(alloc, &manifest.maps)?;
         Ok(Engine {
             manifest,
             local,
-            maps,
-            wrote: false,
+            orders,
+            work,
         })
     }
 
     /// Runs the programs at receive on the route of an UPDATE with announced prefixes. `now` is the clock, `peer` the
     /// sender, `body` the message after its header.
-    #[tactic(auto, using(crate::proofs::Native::native, crate::proofs::Native::keeps_same))]
     pub fn receive(&mut self, now: u64, peer: &Side, route: &mut Overlay, body: &[u8]) -> Outcome
         requires { length body.now ≤ MAX_BODY }
         ensures answers { Answers
             (receive self.old.manifest self.old.local self.old.engine now peer.now route.old.route body.now)
             self.old self.new result route.new.route }
+        ensures undone { IsUndone result self.old self.new route.old.route route.new.route }
         ensures keeps { KeepsRoute route.old.route route.new.route }
     {
-        self.wrote = false;
-        Outcome::Native
+        at_receive(
+            &self.manifest,
+            &self.orders,
+            &mut self.work,
+            now,
+            peer,
+            route,
+            &self.local,
+            body,
+        )
     }
 
     /// Runs the programs at inbound on a copy of the route for one announced prefix.
-    #[tactic(auto, using(crate::proofs::Native::native, crate::proofs::Native::keeps_same))]
     pub fn inbound(&mut self, now: u64, peer: &Side, prefix: Prefix, route: &mut Overlay) -> Outcome
         ensures answers { Answers
             (inbound self.old.manifest self.old.local self.old.engine now peer.now prefix route.old.route)
             self.old self.new result route.new.route }
+        ensures undone { IsUndone result self.old self.new route.old.route route.new.route }
         ensures keeps { KeepsRoute route.old.route route.new.route }
     {
-        self.wrote = false;
-        Outcome::Native
+        at_inbound(
+            &self.manifest,
+            &self.orders,
+            &mut self.work,
+            now,
+            peer,
+            prefix,
+            route,
+            &self.local,
+        )
     }
 
     /// Runs the programs at decision on two candidates for a prefix, each with its source.
-    #[tactic(auto, using(crate::proofs::Native::native))]
     pub fn prefer<A: RouteView, B: RouteView>(
         &mut self,
         prefix: Prefix,
@@ -115,18 +128,27 @@ impl Engine {
         new: &B,
         new_side: &Side,
     ) -> Outcome
-        ensures { Answers
+        ensures answers { Answers
             (prefer self.old.manifest self.old.local self.old.engine prefix (A.route old.now) old_side.now
             (B.route new.now) new_side.now)
             self.old self.new result (A.route old.now) }
+        ensures undone { IsUndone result self.old self.new (A.route old.now) (A.route old.now) }
     {
-        self.wrote = false;
-        Outcome::Native
+        at_decision(
+            &self.manifest,
+            &self.orders,
+            &mut self.work,
+            prefix,
+            old,
+            old_side,
+            new,
+            new_side,
+            &self.local,
+        )
     }
 
     /// Runs the programs at outbound on the best route for a prefix as it would be exported to `peer`. `source` is
     /// the side that the best route comes from, and `best` that route before its export.
-    #[tactic(auto, using(crate::proofs::Native::native, crate::proofs::Native::keeps_same))]
     pub fn outbound<R: RouteView>(
         &mut self,
         peer: &Side,
@@ -139,15 +161,24 @@ impl Engine {
             (outbound self.old.manifest self.old.local self.old.engine peer.now source.now prefix (R.route best.now)
             route.old.route)
             self.old self.new result route.new.route }
+        ensures undone { IsUndone result self.old self.new route.old.route route.new.route }
         ensures keeps { KeepsRoute route.old.route route.new.route }
     {
-        self.wrote = false;
-        Outcome::Native
+        at_outbound(
+            &self.manifest,
+            &self.orders,
+            &mut self.work,
+            peer,
+            source,
+            prefix,
+            best,
+            route,
+            &self.local,
+        )
     }
 
     /// Runs the programs at encode on the route that outbound left, of which `native` is the native section. After a
     /// verdict `out` has the section to send, before it takes the form of its session; otherwise it stays empty.
-    #[tactic(auto, using(crate::proofs::Native::native))]
     pub fn encode<R: RouteView>(
         &mut self,
         peer: &Side,
@@ -164,6 +195,7 @@ impl Engine {
             (encode self.old.manifest self.old.local self.old.engine peer.now source.now (R.route best.now)
             route.now.route)
             self.old self.new result route.now.route }
+        ensures undone { IsUndone result self.old self.new route.now.route route.now.route }
         ensures section { out.new ≡ record out.old {
           octets = section_left
               (encode self.old.manifest self.old.local self.old.engine peer.now source.now (R.route best.now)
@@ -173,8 +205,18 @@ impl Engine {
             (encode self.old.manifest self.old.local self.old.engine peer.now source.now (R.route best.now)
             route.now.route)) (λ s. IsTrue (is_sendable s)) }
     {
-        self.wrote = false;
-        Outcome::Native
+        at_encode(
+            &self.manifest,
+            &self.orders,
+            &mut self.work,
+            peer,
+            source,
+            best,
+            route,
+            &self.local,
+            native,
+            out,
+        )
     }
 
     /// The maps. No run is open in them.
@@ -182,15 +224,14 @@ impl Engine {
         ensures maps { result.now ≡ closed self.now.engine.maps }
         ensures shapes { shapes_of self.now.engine.maps ≡ entry_shapes self.now.manifest.maps }
     {
-        &self.maps
+        &self.work.maps
     }
 
     /// Whether a program failed by this cause in some call.
     pub fn noted(&self, program: u32, cause: Cause) -> bool
         ensures { result ≡ has_key fault_cmp self.now.engine.faults (program, cause) }
     {
-        let _value = &self.maps;
-        false
+        self.work.faults.has(program, cause)
     }
 
     /// Whether the last of the five calls wrote to a map, and its chain did not fail. If it did not, the maps are as
@@ -198,6 +239,6 @@ impl Engine {
     pub fn wrote(&self) -> bool
         ensures { result ≡ self.now.wrote }
     {
-        self.wrote
+        self.work.wrote
     }
 }

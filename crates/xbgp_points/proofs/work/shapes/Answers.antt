@@ -1,9 +1,8 @@
 -- A map's shape is appended, and the map is no longer left.
-use Rattle.std.proofs.Common.{◌≡◌, sym, subst}
 use Rattle.xbgp_manifest.specs.Manifests.{entry_shapes}
 use Rattle.xbgp_manifest.specs.declared.entries.MapEntry.{MapEntry}
 use Rattle.xbgp_points.proofs.ListLemmas.{map-drop-at}
-use Rattle.xbgp_points.proofs.engine.shapes.Goals as goal
+use Rattle.xbgp_points.proofs.work.shapes.Goals as goal
 
 pub maps-preserved : goal.maps-preserved
 maps-preserved c =

@@ -1,0 +1,24 @@
+use Rattle.std.proofs.Common.{sym, ◌∙◌, ap}
+use Rattle.xbgp_helpers.specs.Memories.{is_writable}
+use Rattle.bpf_mem.specs.Memory.{octets_at}
+use Rattle.xbgp_helpers.proofs.MapsLemmas.{map_get-found, map_get-absent, when-passed}
+use Rattle.xbgp_helpers.proofs.maps.map_get.Goals as goal
+
+pub returns-in-Some-clause-memory : goal.returns-in-Some-clause-memory
+returns-in-Some-clause-memory c =
+    let a = c.args in
+    let key = c.in_ok-key.ensures.value ∙ ap (octets_at a.memory.now a.key) c.from.ensures in
+    let passed = when-passed c.is_writable.result c.in_ok-when.field-0 c.in_ok-when.ensures in
+    let room = ap (is_writable a.memory.now a.dst) (sym c.from-2.ensures) ∙ sym c.is_writable.ensures ∙ passed in
+    map_get-found a.maps.now.maps a.map a.key a.dst a.memory.now c.write.new.memory c.in_ok-shape.shape
+    c.in_ok-key.key.now c.in_ok-shape.ensures.shape key room c.in-Some.value.now c.in-Some.ensures.value
+    c.write.ensures.written
+
+pub returns-in-None-clause-memory : goal.returns-in-None-clause-memory
+returns-in-None-clause-memory c =
+    let a = c.args in
+    let key = c.in_ok-key.ensures.value ∙ ap (octets_at a.memory.now a.key) c.from.ensures in
+    let passed = when-passed c.is_writable.result c.in_ok-when.field-0 c.in_ok-when.ensures in
+    let room = ap (is_writable a.memory.now a.dst) (sym c.from-2.ensures) ∙ sym c.is_writable.ensures ∙ passed in
+    map_get-absent a.maps.now.maps a.map a.key a.dst a.memory.now a.memory.now c.in_ok-shape.shape
+    c.in_ok-key.key.now c.in_ok-shape.ensures.shape key room c.in-None.ensures.value

@@ -1,0 +1,49 @@
+-- The engine gives what its chain gives.
+use Rattle.std.proofs.Common.{refl, ap, subst, []}
+use Rattle.xb_domain.specs.declared.point.Point.TheVariants.{Outbound}
+use Rattle.xbgp_helpers.specs.Shows.{shown_at_outbound}
+use Rattle.xbgp_maps.specs.Mappings.{Journalled, closed}
+use Rattle.xbgp_points.specs.Chains.{chain}
+use Rattle.xbgp_points.specs.Engines.{Answers, Kept}
+use Rattle.xbgp_points.specs.Points.{world_of, outbound}
+use Rattle.xbgp_points.proofs.EngineLemmas.{answers, undone}
+use Rattle.xbgp_points.proofs.engine.Engine.outbound.Goals as goal
+
+pub returns-clause-answers : goal.returns-clause-answers
+returns-clause-answers g c =
+    let manifest = c.self.inside.manifest in
+    let maps = c.self.inside.work.maps in
+    let noted = c.self.inside.work.faults in
+    let left = c.at_outbound.new.work in
+    let world = λ (m : Journalled).
+    (shown_at_outbound c.args.peer.now c.args.source.now c.args.prefix (g.R.RouteView.route c.args.best.now)
+    c.args.route.now
+    c.self.inside.local m 0).world in
+    let old : Kept = record {
+      manifest = manifest;
+      local = c.self.inside.local;
+      engine = record { maps = maps.maps; faults = noted };
+      wrote = c.self.inside.work.wrote;
+    } in
+    let new : Kept = record old {
+      engine = record { maps = (left.maps).maps; faults = left.faults };
+      wrote = left.wrote;
+    } in
+    subst (λ (k : Kept). Answers
+    (outbound k.manifest k.local k.engine c.args.peer.now c.args.source.now c.args.prefix
+    (g.R.RouteView.route c.args.best.now) c.args.route.now.route) k
+    new c.at_outbound.result c.at_outbound.new.route.route) c.self.view_is
+    (answers (chain manifest Outbound [] (world maps) noted)
+    (chain manifest Outbound [] (world (closed maps.maps)) noted)
+    old new c.at_outbound.result c.at_outbound.new.route.route left c.at_outbound.ensures.ran
+    (ap (λ (m : Journalled). chain manifest Outbound [] (world m) noted) c.self.invariant.1)
+    refl)
+
+pub returns-clause-undone : goal.returns-clause-undone
+returns-clause-undone g c =
+    let self = c.args.self.now in
+    let w =
+    world_of self.engine self.local c.args.peer.now c.args.source.now c.args.prefix 0 c.args.route.now.route
+    (g.R.RouteView.route c.args.best.now) c.args.source.now in
+    undone self.manifest Outbound [] w self _ c.at_outbound.result c.at_outbound.new.route.route refl
+    (returns-clause-answers g c)

@@ -1,0 +1,5 @@
+use Rattle.xbgp_points.proofs.LawLemmas.{chain_keeps_shapes}
+use Rattle.xbgp_points.proofs.laws.shapes_are_kept.Goals as goal
+
+pub returns : goal.returns
+returns c = chain_keeps_shapes
