@@ -10,3 +10,5 @@ pub mod FrontLemmas
 pub mod LoopLemmas
 pub mod HostLemmas
 pub mod StartLemmas
+pub mod TellLemmas
+pub mod ClockLemmas

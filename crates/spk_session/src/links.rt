@@ -1,12 +1,18 @@
 // What is kept of the peers, besides the octets that came from them, and what is sent to one of them.
-ghost use Rattle.std.specs.Prelude.{◌≡◌, ◌-◌, ◌≤◌, ◌<◌, ◌++◌, [], length, false, IfOk, OnOk};
+ghost use Rattle.std.specs.Prelude.{◌≡◌, ◌-◌, ◌≤◌, ◌<◌, ◌++◌, [], length, drop, true, false, IfOk, OnOk};
 ghost use Rattle.std.specs.Vec.{with_item};
 ghost use Rattle.xb_wire.specs.declared.numbers.TheConstants.{MAX_MESSAGE, MAX_NOTICE_DATA};
 ghost use Rattle.bgp_write.specs.Written.{Replaces, wide_open_message, keepalive_message, notice_message};
 ghost use Rattle.spk_model.specs.Turning.{put};
+ghost use Rattle.bgp_write.specs.Pending.{form};
+ghost use Rattle.spk_model.specs.Readers.{IsPeer};
+ghost use Rattle.spk_model.specs.Routing.{tables_of};
 ghost use Rattle.spk_session.specs.Meaning.{flag_of, HasPeer, IsEven};
+ghost use Rattle.spk_session.specs.Routed.{waiting};
+ghost use Rattle.spk_session.specs.Telling.{IsFormed};
 ghost use Rattle.spk_session.specs.Acting.{closed, sends, sent_to};
 
+use crate::routes::Routes;
 use bgp_fsm::Session;
 use bgp_write::{write_keepalive, write_notice, write_open4};
 use std::alloc::{AllocError, Global};
@@ -19,18 +25,20 @@ use xbgp_config::Config;
 /// What is left of a message that was sent in part.
 #[derive(Drop)]
 pub(crate) struct Rest {
-    octets: Buf,
+    message: Buf,
+    // The octets before it have left.
+    at: usize,
 }
 
 impl Model for Rest {
-    ghost use Rattle.std.specs.Prelude.{◌≤◌, ℕ, List};
+    ghost use Rattle.std.specs.Prelude.{◌≤◌, ℕ, List, drop, length};
     ghost use Rattle.xb_wire.specs.declared.numbers.TheConstants.{MAX_MESSAGE};
 
     ghost Value = { List ℕ };
 
-    ghost view = { λ r. (r.octets).octets };
+    ghost view = { λ r. drop r.at (r.message).octets };
 
-    ghost invariant = { λ r. MAX_MESSAGE ≤ (r.octets).capacity };
+    ghost invariant = { λ r. (MAX_MESSAGE ≤ (r.message).capacity) × (r.at ≤ length (r.message).octets) };
 }
 
 impl Rest {
@@ -38,20 +46,47 @@ impl Rest {
         ensures { IfOk result (λ r. r ≡ []) }
     {
         Ok(Rest {
-            octets: Buf::make(alloc, MAX_MESSAGE)?,
+            message: Buf::make(alloc, MAX_MESSAGE)?,
+            at: 0,
         })
     }
 
     pub(crate) fn as_slice(&self) -> &[u8]
         ensures { result.now ≡ self.now }
     {
-        self.octets.as_slice()
+        &self.message.as_slice()[self.at..]
     }
 
     pub(crate) fn clear(&mut self)
         ensures { self.new ≡ [] }
     {
-        self.octets.clear();
+        self.message.clear();
+        self.at = 0;
+    }
+
+    /// The first octets have left.
+    pub(crate) fn leave(&mut self, count: usize)
+        requires { count ≤ length self.old }
+        ensures { self.new ≡ drop count self.old }
+    {
+        let left = self.as_slice().len() - count;
+        self.at = self.message.len() - left;
+    }
+
+    /// Becomes the next message that a peer is to be told; it is false if nothing waits, and then nothing changed.
+    pub(crate) fn form<R: Routes>(&mut self, routes: &mut R, peer: u32) -> bool
+        requires peer { IsPeer (R.built_from routes.old) peer }
+        requires empty { self.old ≡ [] }
+        ensures setup { R.built_from routes.new ≡ R.built_from routes.old }
+        ensures formed { let told = tables_of (R.routing routes.old) peer in
+            IsFormed (form R.RULE told.adv told.told) peer
+            (R.routing routes.old) (R.routing routes.new) self.old self.new result }
+        ensures less { result ≡ true
+            → length (waiting (R.routing routes.new) peer) < length (waiting (R.routing routes.old) peer) }
+    {
+        self.message.clear();
+        self.at = 0;
+        routes.next_message(peer, &mut self.message)
     }
 }
 
@@ -67,8 +102,8 @@ pub(crate) struct Links {
     pub(crate) message: Buf,
 }
 
-// Octets leave for a peer, if there are any.
-fn put(outputs: &mut Outputs, peer: u32, octets: &[u8]) -> Result<(), AllocError>
+/// Octets leave for a peer, if there are any.
+pub(crate) fn put(outputs: &mut Outputs, peer: u32, octets: &[u8]) -> Result<(), AllocError>
     ensures { OnOk result (outputs.new ≡ outputs.old ++ put peer octets.now) }
 {
     if octets.is_empty() {

@@ -1,7 +1,7 @@
 // What the sessions' half asks of the half that keeps routes.
-ghost use Rattle.std.specs.Prelude.{◌≡◌, ◌<◌, ◌≤◌, ◌==◌, [], true, length, IfOk, OnOk, None};
+ghost use Rattle.std.specs.Prelude.{◌≡◌, ◌<◌, ◌≤◌, ◌==◌, true, length, IfOk, OnOk, None};
 ghost use Rattle.std.specs.Option.{option_map};
-ghost use Rattle.xb_words.specs.Table.{entry_after, has_key};
+ghost use Rattle.xb_words.specs.Table.{entry_after, has_key, IsRising};
 ghost use Rattle.xb_wire.specs.declared.numbers.TheConstants.{MAX_BODY, MAX_MESSAGE};
 ghost use Rattle.xb_values.specs.Prefixes.{prefix_cmp};
 ghost use Rattle.bgp_attr.specs.declared.TheConstants.{MAX_CANONICAL};
@@ -9,12 +9,12 @@ ghost use Rattle.bgp_attr.specs.Paths.{width_of};
 ghost use Rattle.bgp_attr.specs.Routes.{canon};
 ghost use Rattle.bgp_check.specs.Judgement.{judge};
 ghost use Rattle.bgp_write.specs.Pending.{form};
-ghost use Rattle.xbgp_maps.specs.Mappings.{entry_after_in};
+ghost use Rattle.xbgp_maps.specs.Mappings.{entry_after_in, key_cmp, mapping_at};
 ghost use Rattle.xbgp_points.specs.Chains.{fault_cmp};
 ghost use Rattle.spk_model.specs.Sources.{is_wide};
 ghost use Rattle.spk_model.specs.Routing.{tables_of, update, export_all, lose};
 ghost use Rattle.spk_model.specs.Turning.{start_routing};
-ghost use Rattle.spk_model.specs.Readers.{IsPeer, showing};
+ghost use Rattle.spk_model.specs.Readers.{entries_in, IsPeer, showing};
 ghost use Rattle.spk_session.specs.Routed.{rescanned, waiting, Reroutes, Tells};
 
 use bgp_fsm::Session;
@@ -48,7 +48,6 @@ pub trait Routes: Sized + Drop {
 
     /// The routes of a speaker that was not started yet: its own networks.
     fn make(alloc: Global, setup: Setup) -> Result<Self, AllocError>
-        requires no_programs { (setup.manifest).programs ≡ [] }
         ensures setup { IfOk result (λ r. built_from r ≡ setup) }
         ensures routes { IfOk result (λ r. routing r ≡ start_routing setup) };
 
@@ -125,6 +124,7 @@ pub trait Routes: Sized + Drop {
     /// source. Its canonical section replaces the content of `section`, which is unchanged if there is none.
     fn route_after(&self, after: Option<Prefix>, section: &mut Buf) -> Option<(Prefix, u32)>
         requires { MAX_CANONICAL ≤ section.old.capacity }
+        ensures rising { IsRising prefix_cmp (routing self.now).best }
         ensures entry { let found = entry_after prefix_cmp (routing self.now).best after in
             result ≡ option_map (λ e. (e.0, (e.1).source)) found }
         ensures section { let found = entry_after prefix_cmp (routing self.now).best after in
@@ -134,6 +134,7 @@ pub trait Routes: Sized + Drop {
     fn adv_after(&self, peer: u32, after: Option<Prefix>, section: &mut Buf) -> Option<Prefix>
         requires room { MAX_CANONICAL ≤ section.old.capacity }
         requires peer { IsPeer (built_from self.now) peer }
+        ensures rising { IsRising prefix_cmp (tables_of (routing self.now) peer).adv }
         ensures entry { let found = entry_after prefix_cmp (tables_of (routing self.now) peer).adv after in
             result ≡ option_map (λ e. e.0) found }
         ensures section { let found = entry_after prefix_cmp (tables_of (routing self.now) peer).adv after in
@@ -142,7 +143,8 @@ pub trait Routes: Sized + Drop {
     /// The first entry of a map whose key is after another, or the first of all.
     fn map_after(&self, map: u32, after: Option<&[u8]>) -> Option<(&[u8], &[u8])>
         requires { map < length ((built_from self.now).manifest).maps }
-        ensures { option_map (λ e. (e.0.now, e.1.now)) result
+        ensures rising { IsRising key_cmp (entries_in (mapping_at ((routing self.now).engine).maps map)) }
+        ensures entry { option_map (λ e. (e.0.now, e.1.now)) result
             ≡ entry_after_in ((routing self.now).engine).maps map (option_map (λ k. k.now) after.entry) };
 
     /// Whether a fault of a program was noted.
