@@ -3,4 +3,3 @@ mod OutputLemmas
 mod HearLemmas
 mod JudgeLemmas
 mod TopLemmas
-mod ReplayLemmas

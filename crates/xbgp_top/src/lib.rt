@@ -2,7 +2,7 @@
 //!
 //! Words and files come in by a list of words and a shelf; text goes out to a sink, and the status is returned. `run`
 //! finds the command, and each command has a module: `check` and `exec` make their whole text and leave it to be
-//! written once, `hear`, `judge` and `replay` write theirs by pages. Reading comes before writing: an input is read whole before
+//! written once, `hear` and `judge` write theirs by pages. Reading comes before writing: an input is read whole before
 //! it is judged, and what may be refused is refused before any text is written. So a step over the shelf gives a value
 //! or the status that ends the command, and a step over the sink writes a text or the line of that status.
 //!
@@ -19,7 +19,6 @@ mod hear;
 mod input;
 mod judge;
 mod output;
-mod replay;
 mod status;
 mod word;
 

@@ -67,6 +67,5 @@ pub(crate) fn file_word(file: File) -> &'static [u8]
         File::Input => b"input",
         File::Config => b"config",
         File::Manifest => b"manifest",
-        File::Log => b"log",
     }
 }

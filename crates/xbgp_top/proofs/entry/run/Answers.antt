@@ -38,15 +38,3 @@ returns-in-Some-Check-clause-front g c =
 pub returns-in-Some-Check-clause-read_cause : goal.returns-in-Some-Check-clause-read_cause
 returns-in-Some-Check-clause-read_cause g c =
     (explains_command g.S.Shelf.held g.S.Shelf.faults g.K.Sink.took g.K.Sink.faults _ _ _ _ c.check_files.result (map string_bytes c.args.words.now) _ c.check_files.ensures.explains (search rules)).read_cause
-
-pub returns-in-Some-Replay-clause-exact : goal.returns-in-Some-Replay-clause-exact
-returns-in-Some-Replay-clause-exact g c =
-    (explains_command g.S.Shelf.held g.S.Shelf.faults g.K.Sink.took g.K.Sink.faults _ _ _ _ c.replay_files.result (map string_bytes c.args.words.now) _ c.replay_files.ensures.explains (search rules)).exact
-
-pub returns-in-Some-Replay-clause-front : goal.returns-in-Some-Replay-clause-front
-returns-in-Some-Replay-clause-front g c =
-    (explains_command g.S.Shelf.held g.S.Shelf.faults g.K.Sink.took g.K.Sink.faults _ _ _ _ c.replay_files.result (map string_bytes c.args.words.now) _ c.replay_files.ensures.explains (search rules)).front
-
-pub returns-in-Some-Replay-clause-read_cause : goal.returns-in-Some-Replay-clause-read_cause
-returns-in-Some-Replay-clause-read_cause g c =
-    (explains_command g.S.Shelf.held g.S.Shelf.faults g.K.Sink.took g.K.Sink.faults _ _ _ _ c.replay_files.result (map string_bytes c.args.words.now) _ c.replay_files.ensures.explains (search rules)).read_cause
