@@ -1,0 +1,2 @@
+mod FollowingLemmas
+mod ExportLemmas

@@ -1,0 +1,6 @@
+//! The host that keeps lists of attributes.
+#![tactic(auto)]
+
+mod best;
+mod core;
+mod tables;
