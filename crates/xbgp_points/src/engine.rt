@@ -1,72 +1,132 @@
-// The engine that runs chains. Until programs run, every chain is empty.
-ghost use Rattle.std.specs.Prelude.{◌≡◌, ◌≤◌, [], length, IfOk};
-ghost use Rattle.xbgp_points.specs.Engines.{Answers, started};
-ghost use Rattle.xbgp_points.specs.Points.{inbound, outbound, receive};
+// The engine that runs chains.
+ghost use Rattle.std.specs.Prelude.{◌≡◌, ◌≤◌, [], length, map, IfOk, IfSome, IsTrue};
+ghost use Rattle.xb_words.specs.Table.{has_key};
+ghost use Rattle.spk_native.specs.Export.{native_section};
+ghost use Rattle.xbgp_maps.specs.Mappings.{closed, shapes_of};
+ghost use Rattle.xbgp_manifest.specs.Manifests.{entry_shapes};
+ghost use Rattle.xbgp_points.specs.Chains.{fault_cmp, is_sendable};
+ghost use Rattle.xbgp_points.specs.Engines.{started, Answers, KeepsRoute};
+ghost use Rattle.xbgp_points.specs.Points.{encode, given_section, inbound, outbound, prefer, receive, section_left};
 
 use crate::outcome::Outcome;
+use bgp_attr::MAX_CANONICAL;
+use bpf_machine::Cause;
 use std::alloc::{AllocError, Global};
 use std::marker::Model;
 use xb_domain::Side;
-use xb_values::Prefix;
-use xbgp_manifest::Manifest;
+use xb_values::{Buf, Prefix};
+use xb_wire::numbers::MAX_BODY;
+use xbgp_manifest::{Manifest, MapEntries};
+use xbgp_maps::{MapShape, Maps};
 use xbgp_view::{Overlay, RouteView};
 
-/// Runs the chains of a manifest, and keeps its maps and the faults that were noted.
+/// Runs the programs of a manifest, and keeps its maps and the faults that were noted.
 #[derive(Drop)]
 pub struct Engine {
-    local: Side,
     manifest: Manifest,
+    local: Side,
+    maps: Maps,
     wrote: bool,
 }
 
 impl Model for Engine {
-    ghost use Rattle.std.specs.Prelude.{◌≡◌, [], false};
-    ghost use Rattle.xbgp_maps.specs.Mappings.{empty_maps};
+    ghost use Rattle.std.specs.Prelude.{◌≡◌, []};
+    ghost use Rattle.xbgp_maps.specs.Mappings.{closed, shapes_of};
     ghost use Rattle.xbgp_manifest.specs.Manifests.{entry_shapes};
     ghost use Rattle.xbgp_points.specs.Engines.{Kept};
 
     ghost Value = { Kept };
 
-    ghost view = { λ e. record { manifest = e.manifest; local = e.local; engine = record { maps = empty_maps (entry_shapes (e.manifest).maps); faults = [] }; wrote = e.wrote } };
+    ghost view = { λ e. record {
+      manifest = e.manifest;
+      local = e.local;
+      engine = record { maps = (e.maps).maps; faults = [] };
+      wrote = e.wrote;
+    } };
 
-    ghost invariant = { λ e. (e.manifest).programs ≡ [] };
+    ghost invariant = { λ e.
+        ((e.manifest).programs ≡ [])
+        × (e.maps ≡ closed (e.maps).maps)
+        × (shapes_of (e.maps).maps ≡ entry_shapes (e.manifest).maps) };
+}
+
+// The shapes of a manifest's maps, in order.
+fn shapes(alloc: Global, maps: &MapEntries) -> Result<Vec<MapShape>, AllocError>
+    ensures { IfOk result (λ v. v.items ≡ entry_shapes maps.now) }
+{
+    let mut shapes = Vec::with_capacity(alloc, maps.len())?;
+    'maps: for i in 0..maps.len() {
+        shapes.push(maps.get(i).shape)?;
+    }
+    Ok(shapes)
 }
 
 impl Engine {
-    /// An engine of a manifest without programs.
+    /// An engine of a manifest without programs, for the speaker itself as `local`. All memory that its calls need is
+    /// taken here. Err if there is no memory.
+    #[tactic(auto, using(crate::proofs::MapLemmas::shapes_of_empty))]
     pub fn make(alloc: Global, manifest: Manifest, local: Side) -> Result<Engine, AllocError>
         requires { manifest.programs ≡ [] }
         ensures { IfOk result (λ e. e ≡ started manifest local) }
     {
-        let _ = alloc;
+        let shapes = shapes(alloc, &manifest.maps)?;
+        let maps = Maps::make(alloc, &shapes)?;
         Ok(Engine {
-            local,
             manifest,
+            local,
+            maps,
             wrote: false,
         })
     }
 
-    /// Runs the chain at receive.
-    #[tactic(auto, using(crate::proofs::Native::native))]
+    /// Runs the programs at receive on the route of an UPDATE with announced prefixes. `now` is the clock, `peer` the
+    /// sender, `body` the message after its header.
+    #[tactic(auto, using(crate::proofs::Native::native, crate::proofs::Native::keeps_same))]
     pub fn receive(&mut self, now: u64, peer: &Side, route: &mut Overlay, body: &[u8]) -> Outcome
-        requires { length body.now ≤ 4077 }
-        ensures { Answers (receive self.old.manifest self.old.local self.old.engine now peer.now route.old.route body.now) self.old self.new result route.new.route }
+        requires { length body.now ≤ MAX_BODY }
+        ensures answers { Answers
+            (receive self.old.manifest self.old.local self.old.engine now peer.now route.old.route body.now)
+            self.old self.new result route.new.route }
+        ensures keeps { KeepsRoute route.old.route route.new.route }
     {
         self.wrote = false;
         Outcome::Native
     }
 
-    /// Runs the chain at inbound.
-    #[tactic(auto, using(crate::proofs::Native::native))]
+    /// Runs the programs at inbound on a copy of the route for one announced prefix.
+    #[tactic(auto, using(crate::proofs::Native::native, crate::proofs::Native::keeps_same))]
     pub fn inbound(&mut self, now: u64, peer: &Side, prefix: Prefix, route: &mut Overlay) -> Outcome
-        ensures { Answers (inbound self.old.manifest self.old.local self.old.engine now peer.now prefix route.old.route) self.old self.new result route.new.route }
+        ensures answers { Answers
+            (inbound self.old.manifest self.old.local self.old.engine now peer.now prefix route.old.route)
+            self.old self.new result route.new.route }
+        ensures keeps { KeepsRoute route.old.route route.new.route }
     {
         self.wrote = false;
         Outcome::Native
     }
 
-    /// Runs the chain at outbound.
+    /// Runs the programs at decision on two candidates for a prefix, each with its source.
     #[tactic(auto, using(crate::proofs::Native::native))]
+    pub fn prefer<A: RouteView, B: RouteView>(
+        &mut self,
+        prefix: Prefix,
+        old: &A,
+        old_side: &Side,
+        new: &B,
+        new_side: &Side,
+    ) -> Outcome
+        ensures { Answers
+            (prefer self.old.manifest self.old.local self.old.engine prefix (A.route old.now) old_side.now
+            (B.route new.now) new_side.now)
+            self.old self.new result (A.route old.now) }
+    {
+        self.wrote = false;
+        Outcome::Native
+    }
+
+    /// Runs the programs at outbound on the best route for a prefix as it would be exported to `peer`. `source` is
+    /// the side that the best route comes from, and `best` that route before its export.
+    #[tactic(auto, using(crate::proofs::Native::native, crate::proofs::Native::keeps_same))]
     pub fn outbound<R: RouteView>(
         &mut self,
         peer: &Side,
@@ -75,9 +135,69 @@ impl Engine {
         best: &R,
         route: &mut Overlay,
     ) -> Outcome
-        ensures { Answers (outbound self.old.manifest self.old.local self.old.engine peer.now source.now prefix (R.route best.now) route.old.route) self.old self.new result route.new.route }
+        ensures answers { Answers
+            (outbound self.old.manifest self.old.local self.old.engine peer.now source.now prefix (R.route best.now)
+            route.old.route)
+            self.old self.new result route.new.route }
+        ensures keeps { KeepsRoute route.old.route route.new.route }
     {
         self.wrote = false;
         Outcome::Native
+    }
+
+    /// Runs the programs at encode on the route that outbound left, of which `native` is the native section. After a
+    /// verdict `out` has the section to send, before it takes the form of its session; otherwise it stays empty.
+    #[tactic(auto, using(crate::proofs::Native::native))]
+    pub fn encode<R: RouteView>(
+        &mut self,
+        peer: &Side,
+        source: &Side,
+        best: &R,
+        route: &Overlay,
+        native: &[u8],
+        out: &mut Buf,
+    ) -> Outcome
+        requires empty { out.old.octets ≡ [] }
+        requires room { MAX_CANONICAL ≤ out.old.capacity }
+        requires native { native.now ≡ native_section route.now.route }
+        ensures answers { Answers
+            (encode self.old.manifest self.old.local self.old.engine peer.now source.now (R.route best.now)
+            route.now.route)
+            self.old self.new result route.now.route }
+        ensures section { out.new ≡ record out.old {
+          octets = section_left
+              (encode self.old.manifest self.old.local self.old.engine peer.now source.now (R.route best.now)
+              route.now.route);
+        } }
+        ensures sendable { IfSome (given_section
+            (encode self.old.manifest self.old.local self.old.engine peer.now source.now (R.route best.now)
+            route.now.route)) (λ s. IsTrue (is_sendable s)) }
+    {
+        self.wrote = false;
+        Outcome::Native
+    }
+
+    /// The maps. No run is open in them.
+    pub fn maps(&self) -> &Maps
+        ensures maps { result.now ≡ closed self.now.engine.maps }
+        ensures shapes { shapes_of self.now.engine.maps ≡ entry_shapes self.now.manifest.maps }
+    {
+        &self.maps
+    }
+
+    /// Whether a program failed by this cause in some call.
+    pub fn noted(&self, program: u32, cause: Cause) -> bool
+        ensures { result ≡ has_key fault_cmp self.now.engine.faults (program, cause) }
+    {
+        let _value = &self.maps;
+        false
+    }
+
+    /// Whether the last of the five calls wrote to a map, and its chain did not fail. If it did not, the maps are as
+    /// they were before that call. False before the first call.
+    pub fn wrote(&self) -> bool
+        ensures { result ≡ self.now.wrote }
+    {
+        self.wrote
     }
 }
