@@ -9,3 +9,5 @@ pub mod OrderLemmas
 pub mod ChosenLemmas
 pub mod FoldLemmas
 pub mod DecisionRows
+pub mod MarksLemmas
+pub mod CarryLemmas

@@ -47,7 +47,7 @@ length-without r code = omega (
 )
 
 -- a new attribute adds its octets
-length-with_value : (r : Route) (code : ℕ) (a : Attribute) → IsStrictlySortedBy nat_cmp (keys_of r)
+pub length-with_value : (r : Route) (code : ℕ) (a : Attribute) → IsStrictlySortedBy nat_cmp (keys_of r)
     → length (canon (with_value nat_cmp r code a)) + size_if (attribute_at r code) ≡ length (canon r) + size_of a
 length-with_value r code a rising = omega (
   arith,
@@ -73,7 +73,7 @@ at-without r code q rising =
     (λ x y e. (eq_by_cmp_equiv nat_cmp_total).congr code x y e) q r (IsDistinct-from_sorted nat_cmp (keys_of r) rising)
 
 -- and after a write
-at-with_value : (r : Route) (code : ℕ) (a : Attribute) (q : ℕ)
+pub at-with_value : (r : Route) (code : ℕ) (a : Attribute) (q : ℕ)
     → attribute_at (with_value nat_cmp r code a) q ≡ cond (is_at (nat_cmp code) q) (Some a) (attribute_at r q)
 at-with_value [] code a q = ap (λ (b : Bool). cond {A = Option Attribute} b (Some a) None) (at_back code q)
 at-with_value (e ∷ r) code a q =

@@ -5,3 +5,4 @@ pub mod Values
 pub mod Decision
 pub mod Filters
 pub mod Laws
+pub mod Marks

@@ -1,5 +1,5 @@
 -- What the native functions read of a route (RFC 4271, sections 4.3 and 5.1; RFC 6793 for the AS_PATH).
-use Rattle.std.specs.Prelude.{◌≡◌, ℕ, List, [], Option, Some, None}
+use Rattle.std.specs.Prelude.{◌≡◌, ℕ, Bool, false, List, [], Option, Some, None, is_none}
 use Rattle.std.specs.Option.{option_map, unwrap_or}
 use Rattle.xb_words.specs.Octets.{four_at}
 use Rattle.bgp_attr.specs.declared.codes.TheConstants.{AS_PATH, NEXT_HOP}
@@ -38,3 +38,11 @@ IsFaultless w route =
 -- no attribute is malformed, with AS numbers of four octets
 abbrev pub HasNoFault : Route → Type 0
 HasNoFault route = IsFaultless as_width route
+
+-- an attribute is there and is not malformed
+abbrev pub is_sound : ℕ → Option Attribute → Bool
+is_sound code None = false
+is_sound code (Some a) = is_none (attr_fault as_width code a.flags a.value)
+
+abbrev pub has_sound : Route → ℕ → Bool
+has_sound route code = is_sound code (attribute_at route code)

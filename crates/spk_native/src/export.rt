@@ -1,16 +1,29 @@
 // What a peer is sent of a route.
-ghost use Rattle.std.specs.Prelude.{◌≡◌, ◌+◌, ◌≤◌, ◌++◌, List, ℕ, length};
-ghost use Rattle.bgp_attr.specs.Routes.{attribute_at};
+ghost use Rattle.std.specs.Prelude.{◌≡◌, ◌+◌, ◌≤◌, ◌++◌, List, ℕ, length, map, true};
+ghost use Rattle.bgp_attr.specs.Paths.{path_octets, prepend};
+ghost use Rattle.bgp_attr.specs.Routes.{as_width, attribute_at, canon, with_attribute, IsRoute};
 ghost use Rattle.bgp_attr.specs.Rules.{is_known as is_of_row};
 ghost use Rattle.xbgp_view.specs.Sections.{entry_of};
 ghost use Rattle.spk_native.specs.Export.{is_of_narrow as is_of_two, is_passed_on as is_sent};
-ghost use Rattle.spk_native.specs.Export.{native_section as section_of};
+ghost use Rattle.spk_native.specs.Export.{carry, marked_partial, native_section as section_of, to_external, to_internal};
+ghost use Rattle.spk_native.specs.Values.{has_sound, path_of};
+ghost use Rattle.spk_native.specs.Marks.{marked_at};
 
+use crate::filters::EXTERNAL;
+use crate::four::copy_out;
 use bgp_attr::MAX_CANONICAL;
-use bgp_attr::codes::{AGGREGATOR, AS4_AGGREGATOR, AS4_PATH, ORIGIN};
-use bgp_attr::flags::TRANSITIVE;
+use bgp_attr::codes::{
+    AGGREGATOR, AS_PATH, AS4_AGGREGATOR, AS4_PATH, LOCAL_PREF, MULTI_EXIT_DISC, NEXT_HOP, ORIGIN,
+};
+use bgp_attr::flags::{PARTIAL, TRANSITIVE, WELL_KNOWN};
+use bgp_path::Segments;
+use xb_domain::Side;
 use xb_values::Buf;
+use xb_wire::numbers::MAX_MESSAGE;
 use xbgp_view::{Overlay, RouteView, append_attribute};
+
+/// The most octets that [`export_attrs`] adds to the canonical section of a route.
+pub const MAX_ADDED: usize = 7;
 
 // Whether a code has a rule of its own.
 fn is_known(code: u8) -> bool
@@ -64,5 +77,108 @@ pub fn native_section(route: &Overlay, out: &mut Buf)
     'codes: while let Some(code) = route.code_from(from) {
         append_passed_on(route, code, &mut value, out);
         from = u16::from(code) + 1;
+    }
+}
+
+// Marks the attribute of a code as partial, if the route has it, it is not recognized and it is passed on.
+fn mark(route: &mut Overlay, code: u8)
+    ensures { route.new ≡ record route.old { route = marked_at code route.old.route } }
+{
+    if is_known(code) {
+        return;
+    }
+    let Some(held) = copy_out(route, code) else {
+        return;
+    };
+    let flags = held.flags();
+    if flags & TRANSITIVE != 0 {
+        let _ = route.set(code, flags | PARTIAL, held.value(), MAX_CANONICAL);
+    }
+}
+
+// Marks as partial what is not recognized and is passed on (RFC 4271, section 5).
+fn mark_all(route: &mut Overlay)
+    ensures { route.new ≡ record route.old { route = map marked_partial route.old.route } }
+{
+    let mut from = 0u16;
+    'codes: while let Some(code) = route.code_from(from) {
+        mark(route, code);
+        from = u16::from(code) + 1;
+    }
+}
+
+// Prepends an AS number to the AS_PATH, for which there is room.
+fn prepend_number(route: &mut Overlay, asn: u32)
+    requires short { length (canon route.old.route) ≤ MAX_MESSAGE }
+    requires path { has_sound route.old.route AS_PATH ≡ true }
+    ensures shape { IsRoute route.old.route }
+    ensures after { route.new ≡ record route.old {
+      route = with_attribute route.old.route AS_PATH WELL_KNOWN
+          (path_octets as_width (prepend asn (path_of route.old.route)));
+    } }
+    ensures bound { length (canon route.new.route) ≤ length (canon route.old.route) + MAX_ADDED }
+{
+    let Some(held) = copy_out(route, AS_PATH) else {
+        return;
+    };
+    let Some(path) = Segments::wide(held.value()) else {
+        return;
+    };
+    let mut octets = [0u8; MAX_CANONICAL];
+    let len = path.prepend_into(asn, &mut octets).unwrap_or(0);
+    let _ = route.set(AS_PATH, WELL_KNOWN, &octets[..len], MAX_CANONICAL);
+}
+
+// Makes a route what an external peer is sent.
+fn send_external(route: &mut Overlay, local: &Side)
+    requires short { length (canon route.old.route) ≤ MAX_MESSAGE }
+    requires path { has_sound route.old.route AS_PATH ≡ true }
+    requires next_hop { has_sound route.old.route NEXT_HOP ≡ true }
+    ensures after { route.new ≡ record route.old { route = to_external route.old.route local.now } }
+    ensures bound { length (canon route.new.route) ≤ length (canon route.old.route) + MAX_ADDED }
+{
+    prepend_number(route, local.asn);
+    let _ = route.set(
+        NEXT_HOP,
+        WELL_KNOWN,
+        &local.address.to_be_bytes(),
+        MAX_CANONICAL,
+    );
+    let _ = route.unset(LOCAL_PREF);
+    let _ = route.unset(MULTI_EXIT_DISC);
+}
+
+// Makes a route what an internal peer is sent.
+fn send_internal(route: &mut Overlay, local_pref: u32)
+    requires { length (canon route.old.route) ≤ MAX_MESSAGE }
+    ensures after { route.new ≡ record route.old { route = to_internal route.old.route local_pref } }
+    ensures bound { length (canon route.new.route) ≤ length (canon route.old.route) + MAX_ADDED }
+{
+    if route.flags_len(LOCAL_PREF).is_none() {
+        let _ = route.set(
+            LOCAL_PREF,
+            WELL_KNOWN,
+            &local_pref.to_be_bytes(),
+            MAX_CANONICAL,
+        );
+    }
+}
+
+/// Makes a route what it is for a peer (RFC 4271, sections 5 and 9.2). `source` is the side that it came from, and
+/// `local_pref` the LOCAL_PREF that an internal peer is sent if the route has none.
+pub fn export_attrs(route: &mut Overlay, source: &Side, peer: &Side, local: &Side, local_pref: u32)
+    requires short { length (canon route.old.route) ≤ MAX_MESSAGE }
+    requires origin { has_sound route.old.route ORIGIN ≡ true }
+    requires path { has_sound route.old.route AS_PATH ≡ true }
+    requires next_hop { has_sound route.old.route NEXT_HOP ≡ true }
+    ensures carried { route.new
+        ≡ record route.old { route = carry route.old.route source.now peer.now local.now local_pref } }
+    ensures bound { length (canon route.new.route) ≤ length (canon route.old.route) + MAX_ADDED }
+{
+    mark_all(route);
+    if peer.kind == EXTERNAL {
+        send_external(route, local);
+    } else {
+        send_internal(route, local_pref);
     }
 }

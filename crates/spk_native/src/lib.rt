@@ -24,6 +24,6 @@ mod values;
 mod wide;
 
 pub use decision::{MAX_CANDIDATES, Rank, rank_of, survivor};
-pub use export::native_section;
+pub use export::{MAX_ADDED, export_attrs, native_section};
 pub use filters::{EXTERNAL, INTERNAL, inbound_native, outbound_native};
 pub use receipt::{narrow_route, widen_route};
