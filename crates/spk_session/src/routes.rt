@@ -1,5 +1,5 @@
 // What the sessions' half asks of the half that keeps routes.
-ghost use Rattle.std.specs.Prelude.{◌≡◌, ◌<◌, ◌≤◌, ◌==◌, true, length, IfOk, OnOk, None};
+ghost use Rattle.std.specs.Prelude.{◌≡◌, ◌<◌, ◌≤◌, ◌==◌, [], true, length, IfOk, OnOk, None};
 ghost use Rattle.std.specs.Option.{option_map};
 ghost use Rattle.xb_words.specs.Table.{entry_after, has_key};
 ghost use Rattle.xb_wire.specs.declared.numbers.TheConstants.{MAX_BODY, MAX_MESSAGE};
@@ -48,6 +48,7 @@ pub trait Routes: Sized + Drop {
 
     /// The routes of a speaker that was not started yet: its own networks.
     fn make(alloc: Global, setup: Setup) -> Result<Self, AllocError>
+        requires no_programs { (setup.manifest).programs ≡ [] }
         ensures setup { IfOk result (λ r. built_from r ≡ setup) }
         ensures routes { IfOk result (λ r. routing r ≡ start_routing setup) };
 
@@ -69,31 +70,35 @@ pub trait Routes: Sized + Drop {
         requires short { length body.now ≤ MAX_BODY }
         requires good { judge (width_of (is_wide sessions.now peer)) body.now ≡ None }
         ensures setup { OnOk result (built_from self.new ≡ built_from self.old) }
-        ensures routes { let step = λ t. update (built_from self.old) sessions.now now t peer body.now in
-            OnOk result (Reroutes step (routing self.old) (routing self.new)) };
+        ensures routes { OnOk result (Reroutes
+            (λ t. update (built_from self.old) sessions.now now t peer body.now)
+            (routing self.old) (routing self.new)) };
 
     /// The session of a peer came up: every best route is exported to it.
     fn export_all(&mut self, alloc: Global, sessions: &[Session], peer: u32) -> Result<(), AllocError>
         requires all { length sessions.now ≡ length ((built_from self.old).config).peers }
         requires peer { IsPeer (built_from self.old) peer }
         ensures setup { OnOk result (built_from self.new ≡ built_from self.old) }
-        ensures routes { let step = λ t. export_all (built_from self.old) sessions.now t peer in
-            OnOk result (Reroutes step (routing self.old) (routing self.new)) };
+        ensures routes { OnOk result (Reroutes
+            (λ t. export_all (built_from self.old) sessions.now t peer)
+            (routing self.old) (routing self.new)) };
 
     /// The session of a peer went down: its tables become empty, and the prefixes that it sent are decided again.
     fn lose(&mut self, alloc: Global, sessions: &[Session], peer: u32) -> Result<(), AllocError>
         requires all { length sessions.now ≡ length ((built_from self.old).config).peers }
         requires peer { IsPeer (built_from self.old) peer }
         ensures setup { OnOk result (built_from self.new ≡ built_from self.old) }
-        ensures routes { let step = λ t. lose (built_from self.old) sessions.now t peer in
-            OnOk result (Reroutes step (routing self.old) (routing self.new)) };
+        ensures routes { OnOk result (Reroutes
+            (λ t. lose (built_from self.old) sessions.now t peer)
+            (routing self.old) (routing self.new)) };
 
     /// Decides and exports every known prefix again.
     fn rescan(&mut self, alloc: Global, sessions: &[Session]) -> Result<(), AllocError>
         requires all { length sessions.now ≡ length ((built_from self.old).config).peers }
         ensures setup { OnOk result (built_from self.new ≡ built_from self.old) }
-        ensures routes { let step = rescanned (built_from self.old) sessions.now in
-            OnOk result (Reroutes step (routing self.old) (routing self.new)) };
+        ensures routes { OnOk result (Reroutes
+            (rescanned (built_from self.old) sessions.now)
+            (routing self.old) (routing self.new)) };
 
     /// Replaces the content of `out` by the next message that a peer is to be told, and takes what it says for told.
     /// It is false exactly if nothing waits, and then nothing changed. No memory is taken.
