@@ -1,6 +1,7 @@
 pub mod RangeLemmas
-pub mod CandidatesLemmas
-pub mod LocalLemmas
+pub mod StepLemmas
 pub mod SetLemmas
 pub mod HopLemmas
-pub mod StepLemmas
+pub mod SoundLemmas
+pub mod LocalLemmas
+pub mod CandidatesLemmas

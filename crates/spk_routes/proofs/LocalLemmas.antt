@@ -59,9 +59,7 @@ no_fault config is code a at =
 
 pub local_sound : (config : Config) → IsConfig config → IsSound (local_route config)
 local_sound config is = record {
+  mandatory = record { origin = refl; path = refl; next_hop = refl };
   faultless = no_fault config is;
-  origin = ap is_none origin_good;
-  path = ap is_none path_good;
-  next_hop = ap is_none (hop_good (config.local).address is.address);
   short = lit≤ tt;
 }

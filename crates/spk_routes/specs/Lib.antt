@@ -1,2 +1,4 @@
 pub mod Candidates
+pub mod Exports
 pub mod Sound
+pub mod Rooms

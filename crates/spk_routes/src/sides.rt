@@ -18,10 +18,17 @@ pub fn is_up(session: &Session) -> bool
     matches!(session.state(), State::Established)
 }
 
-/// The degree of preference of a route without LOCAL_PREF. A configuration is always one that may be accepted.
-pub fn local_pref_of(config: &Config) -> u32
-    ensures value { result ≡ config.now.local_pref }
+/// The speaker as a party of its routes. A configuration is always one that may be accepted.
+pub fn local_of(config: &Config) -> Side
+    ensures value { result ≡ config.now.local }
     ensures kept { IsConfig config.now }
+{
+    config.local
+}
+
+/// The degree of preference of a route without LOCAL_PREF.
+pub fn local_pref_of(config: &Config) -> u32
+    ensures { result ≡ config.now.local_pref }
 {
     config.local_pref
 }

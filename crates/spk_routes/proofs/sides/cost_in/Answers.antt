@@ -1,5 +1,5 @@
 use Rattle.std.proofs.Common.{◌≡◌, ◌∙◌, sym, ap, ℕ, Option, Some, eq-eqb}
-use XX.{ne-eqb}
+use Rattle.std.proofs.lemmas.Bool.{ne_eqb}
 use Rattle.std.specs.Prelude.{◌==◌}
 use Rattle.std.specs.Option.{option_map, unwrap_or}
 use Rattle.xbgp_config.specs.declared.lists.CostEntry.{CostEntry}
@@ -17,5 +17,5 @@ returns-then-entry-hop c =
 pub loop-i-preserved : goal.loop-i-preserved
 loop-i-preserved c =
     sym (find-later (λ e. e.next_hop == c.args.hop) c.args.costs.now c.loop-i.i c.get-entry.result.now
-      c.get-entry.ensures (ne-eqb c.get-entry.result.now.next_hop c.args.hop c.if-entry-hop.false))
+      c.get-entry.ensures (ne_eqb c.get-entry.result.now.next_hop c.args.hop c.if-entry-hop.false))
     ∙ c.loop-i.invariant
