@@ -5,3 +5,5 @@ pub mod HopLemmas
 pub mod SoundLemmas
 pub mod LocalLemmas
 pub mod CandidatesLemmas
+pub mod ExportLemmas
+pub mod FaultLemmas
