@@ -7,3 +7,5 @@ pub mod LocalLemmas
 pub mod CandidatesLemmas
 pub mod ExportLemmas
 pub mod FaultLemmas
+pub mod EachLemmas
+pub mod ReceiptLemmas

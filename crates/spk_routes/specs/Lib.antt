@@ -2,3 +2,4 @@ pub mod Candidates
 pub mod Exports
 pub mod Sound
 pub mod Rooms
+pub mod Each

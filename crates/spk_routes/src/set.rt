@@ -1,8 +1,9 @@
 // A set of prefixes.
-ghost use Rattle.std.specs.Prelude.{◌≡◌, [], ◌∷◌, IfSome, IfNone, OnOk, OnErr};
-ghost use Rattle.xb_words.specs.Table.{with_key};
-ghost use Rattle.xb_values.specs.Prefixes.{prefix_cmp};
+ghost use Rattle.std.specs.Prelude.{◌≡◌, [], ◌∷◌, true, IfSome, IfNone, OnOk, OnErr};
+ghost use Rattle.xb_words.specs.Table.{has_key, with_key, with_keys};
+ghost use Rattle.xb_values.specs.Prefixes.{are_prefixes, prefix_cmp, prefixes};
 
+use crate::EachPrefix;
 use std::alloc::{AllocError, Global};
 use std::collections::BTreeSet;
 use std::marker::Model;
@@ -40,6 +41,25 @@ impl PrefixSet {
     {
         let _ = self.keys.insert(prefix)?;
         Ok(())
+    }
+
+    /// Adds the prefixes that octets write. The error is want of memory; then some may have been added.
+    pub fn add_all(&mut self, octets: &[u8]) -> Result<(), AllocError>
+        requires { are_prefixes octets.now ≡ true }
+        ensures { OnOk result (self.new ≡ with_keys prefix_cmp self.old (prefixes octets.now)) }
+    {
+        let mut rest = EachPrefix::new(octets);
+        'prefixes: while let Some(prefix) = rest.next() {
+            self.add(prefix)?;
+        }
+        Ok(())
+    }
+
+    /// Whether the set has a prefix.
+    pub fn has(&self, prefix: Prefix) -> bool
+        ensures { result ≡ has_key prefix_cmp self.now prefix }
+    {
+        self.keys.contains(&prefix)
     }
 
     /// Removes the least prefix and returns it. None if the set is empty.
