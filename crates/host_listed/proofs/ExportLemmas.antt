@@ -135,34 +135,38 @@ retracted a ts sessions prefix p tables s ready all least most s_is up found is 
     (when_up a sessions prefix p s None all least most s_is up found)
 
 -- what a best route becomes for a peer, on what the core holds
-abbrev pub gives_for : Core → ℕ → Side → Bool → Side → Prefix → Route → Exported
-gives_for a default to wide from prefix route =
-    exported a.engine.manifest a.engine.local default a.engine.engine to wide from prefix route
+abbrev pub gives_for : Core → Side → Bool → Side → Prefix → Route → Exported
+gives_for a to wide from prefix route =
+    exported a.engine.manifest a.config.local a.config.local_pref a.engine.engine to wide from prefix route
 
 -- a best route is exported
 pub exports : (a : Core) (e : Kept) (ts : Vec Tables Global) (x : List ℕ) (sessions : List Owned) (prefix : Prefix) (p : ℕ)
-    (tables : Tables) (s w : Owned) (b : Chosen) (default number : ℕ) (route : Route) (to from : Side) (wide : Bool)
+    (tables : Tables) (s w : Owned) (b : Chosen) (number : ℕ) (route : Route) (to from : Side) (wide : Bool)
     (o : Option (List ℕ))
     → IsReady a → length sessions ≡ length a.config.peers → 1 ≤ p → p ≤ length a.config.peers
     → s ≡ slice_index_or sessions (p - 1) s → is_established (s.session).state ≡ true
-    → value_at prefix_cmp a.best.entries prefix ≡ Some b
-    → default ≡ a.config.local_pref → number ≡ b.source → route ≡ b.route
+    → value_at prefix_cmp a.best.entries prefix ≡ Some b → number ≡ b.source → route ≡ b.route
     → to ≡ side_of a.config sessions p → from ≡ side_of a.config sessions number
     → w ≡ slice_index_or sessions (p - 1) w → wide ≡ (w.session).wide
-    → (gives_for a default to wide from prefix route).section ≡ o
-    → e.engine ≡ (gives_for a default to wide from prefix route).engine
+    → (gives_for a to wide from prefix route).section ≡ o
+    → e.engine ≡ (gives_for a to wide from prefix route).engine
     → e.manifest ≡ a.engine.manifest → e.local ≡ a.engine.local
     → tables ≡ slice_index_or a.peers.items (p - 1) tables
     → ts.items ≡ slice_set a.peers.items (p - 1) (record tables { adv = adv_after tables.adv prefix o })
     → Does (λ setup t. export setup sessions prefix t p) a (exported_core a e ts x)
-exports a e ts x sessions prefix p tables s w b default number route to from wide o ready all least most s_is up found
-    default_is number_is route_is to_is from_is w_is wide_is section engine manifest local is items =
-    let g : Exported = gives_for a default to wide from prefix route in
+exports a e ts x sessions prefix p tables s w b number route to from wide o ready all least most s_is up found
+    number_is route_is to_is from_is w_is wide_is section engine manifest local is items =
+    let g : Exported = gives_for a to wide from prefix route in
     let wide_at : wide ≡ is_wide sessions p =
         wide_is ∙ ap (λ (y : Owned). (y.session).wide)
           (session_at sessions p w least (subst (λ (n : ℕ). p ≤ n) (sym all) most) w_is) in
-    let given : exported a.engine.manifest a.config.local a.config.local_pref a.engine.engine (side_of a.config sessions p)
-          (is_wide sessions p) (side_of a.config sessions b.source) prefix b.route ≡ g = cc (ready.local, from_is) in
+    let given : gives_for a (side_of a.config sessions p) (is_wide sessions p) (side_of a.config sessions b.source) prefix
+          b.route ≡ g =
+        ap (λ (y : Side). gives_for a y (is_wide sessions p) (side_of a.config sessions b.source) prefix b.route) (sym to_is)
+        ∙ ap (λ (y : Bool). gives_for a to y (side_of a.config sessions b.source) prefix b.route) (sym wide_at)
+        ∙ ap (λ (y : Side). gives_for a to wide y prefix b.route)
+          (ap (side_of a.config sessions) (sym number_is) ∙ sym from_is)
+        ∙ ap (gives_for a to wide from prefix) (sym route_is) in
     lands a e ts x sessions prefix p tables o (λ trace. trace ++ g.trace) ready least most is manifest local items
     (λ trace.
       when_up a sessions prefix p s (Some b) all least most s_is up found trace

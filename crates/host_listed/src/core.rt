@@ -87,10 +87,9 @@ impl Core {
         };
         let to = side_of(&self.config, sessions, peer);
         let from = side_of(&self.config, sessions, best.source());
-        let default = default_of(&self.config);
         if self.exporter.export(
             &mut self.engine,
-            default,
+            &self.config,
             &to,
             sessions[i].wide(),
             &from,
@@ -158,13 +157,6 @@ impl Core {
         }
         Ok(())
     }
-}
-
-// The default degree of preference.
-fn default_of(config: &Config) -> u32
-    ensures { result ≡ config.now.local_pref }
-{
-    config.local_pref
 }
 
 // The prefixes that have a best route, by rising order.

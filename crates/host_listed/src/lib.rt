@@ -3,4 +3,5 @@
 
 mod best;
 mod core;
+mod decision;
 mod tables;

@@ -14,7 +14,7 @@ use Rattle.xb_domain.specs.declared.side.Side.{Side}
 use Rattle.xbgp_config.specs.Configs.{Config, IsConfig}
 use Rattle.spk_model.specs.Choosing.{Candidate}
 use Rattle.spk_model.specs.Sources.{side_of, entry_of, no_entry, local_route}
-use Rattle.spk_routes.specs.Candidates.{candidate_of, found_in}
+use Rattle.spk_routes.specs.Candidates.{candidate_of, found_in, AreGood}
 use Rattle.spk_routes.specs.Sound.{IsSound}
 use Rattle.spk_routes.proofs.RangeLemmas.{range_with_len-more}
 
@@ -63,11 +63,10 @@ addresses_differ config sessions (suc q) (suc p) is below within same =
     is.peers_differ (suc q - 1) (suc p - 1) no_entry (omega (arith, below)) (omega (arith, within))
     (sym (address_peer config sessions q) ∙ same ∙ address_peer config sessions p)
 
-pub record AreGood (config : Config) (sessions : List Owned) (n : ℕ) (cs : List Candidate) : Type 0 where
-  pub few : length cs ≤ n + 1
-  pub sound : All (λ c. IsSound c.route) cs
-  pub apart : AllPairs (λ a b. (a.rank).address ≢ (b.rank).address) cs
-  pub within : All (λ c. (q : ℕ) × (q ≤ n) × ((c.rank).address ≡ address_of config sessions q)) cs
+-- a candidate is of one of the first parties
+abbrev OfSide : Config → List Owned → ℕ → Candidate → Type 0
+OfSide config sessions n c =
+    (q : ℕ) × (q ≤ n) × (c.side ≡ side_of config sessions q) × ((c.rank).address ≡ (c.side).address)
 
 one_more : (config : Config) (sessions : List Owned) (n : ℕ) (cs : List Candidate) (o : Option Route)
     → IsConfig config → 1 + n ≤ length config.peers → IfSome o IsSound → AreGood config sessions n cs
@@ -76,19 +75,20 @@ one_more config sessions n cs None is most sound good = record {
   few = omega (arith, good.few);
   sound = good.sound;
   apart = good.apart;
-  within = λ i d inside. let w = good.within i d inside in (w.0, omega (arith, w.1), w.2);
+  sides = λ i d inside. let w = good.sides i d inside in (w.0, omega (arith, w.1), w.2, w.3);
 }
 one_more config sessions n cs (Some r) is most sound good =
     let c : Candidate = candidate_of config (side_of config sessions (1 + n)) r in
-    let own : (c.rank).address ≡ address_of config sessions (1 + n) = refl in
     record {
       few = omega (arith, good.few, length_push cs c);
       sound = All-push (λ x. IsSound x.route) cs c good.sound sound;
       apart = all_pairs_push (λ a b. (a.rank).address ≢ (b.rank).address) cs c good.apart
-        (λ k d inside same. let w = good.within k d inside in
-          addresses_differ config sessions w.0 (1 + n) is (omega (arith, w.1)) most (sym w.2 ∙ same ∙ own));
-      within = All-push (λ x. (q : ℕ) × (q ≤ n + 1) × ((x.rank).address ≡ address_of config sessions q)) cs c
-        (λ i d inside. let w = good.within i d inside in (w.0, omega (arith, w.1), w.2)) (1 + n, omega arith, own);
+        (λ k d inside same. let w = good.sides k d inside in
+          addresses_differ config sessions w.0 (1 + n) is (omega (arith, w.1)) most
+          (sym (w.3 ∙ ap (λ (s : Side). s.address) w.2) ∙ same));
+      sides = All-push (OfSide config sessions (n + 1)) cs c
+        (λ i d inside. let w = good.sides i d inside in (w.0, omega (arith, w.1), w.2, w.3))
+        (1 + n, omega arith, refl, refl);
     }
 
 -- no candidates
@@ -97,7 +97,7 @@ none_good config sessions = record {
   few = omega arith;
   sound = λ i d inside. absurd (omega (arith, inside));
   apart = λ i j d below inside. absurd (omega (arith, inside));
-  within = λ i d inside. absurd (omega (arith, inside));
+  sides = λ i d inside. absurd (omega (arith, inside));
 }
 
 -- the route of a local network alone
@@ -111,8 +111,7 @@ own_good config sessions own =
       sound = All-push (λ x. IsSound x.route) [] c none.sound own;
       apart = all_pairs_push (λ a b. (a.rank).address ≢ (b.rank).address) [] c none.apart
         (λ k d inside. absurd (omega (arith, inside)));
-      within = All-push (λ x. (q : ℕ) × (q ≤ 0) × ((x.rank).address ≡ address_of config sessions q)) [] c none.within
-        (0, omega arith, refl);
+      sides = All-push (OfSide config sessions 0) [] c none.sides (0, omega arith, refl, refl);
     }
 
 -- the candidates that the first n peers give
