@@ -19,7 +19,7 @@ use Rattle.spk_model.specs.Choosing.{Trace}
 use Rattle.spk_model.specs.Sources.{session_of, is_established, is_up, is_wide, side_of}
 use Rattle.spk_model.specs.Exporting.{Exported, exported}
 use Rattle.spk_model.specs.Routing.{Routing, Routed, Tables, Chosen, no_tables, tables_of, with_tables, at_tables, set_adv, export, export_best, advertise}
-use Rattle.host_listed.specs.declared.core.Core.{Core}
+use Rattle.host_listed.specs.declared.routing.Core.{Core}
 use Rattle.host_listed.specs.Meaning.{Does, IsReady, setup_of, routing_of, routed}
 
 -- a session by its index is that of the peer's number

@@ -6,7 +6,7 @@ use Rattle.spk_model.specs.declared.host.Setup.{Setup}
 use Rattle.spk_model.specs.Choosing.{Trace}
 use Rattle.spk_model.specs.Routing.{Routing, Routed}
 use Rattle.spk_routes.proofs.RangeLemmas.{range_with_len-more}
-use Rattle.host_listed.specs.declared.core.Core.{Core}
+use Rattle.host_listed.specs.declared.routing.Core.{Core}
 use Rattle.host_listed.specs.Meaning.{Does, IsReady, setup_of, routing_of, routed}
 
 -- nothing was done

@@ -5,7 +5,7 @@ use Rattle.spk_model.specs.declared.host.Setup.{Setup}
 use Rattle.spk_model.specs.Choosing.{Trace}
 use Rattle.spk_model.specs.Sources.{local_route}
 use Rattle.spk_model.specs.Routing.{Routing, Routed}
-use Rattle.host_listed.specs.declared.core.Core.{Core}
+use Rattle.host_listed.specs.declared.routing.Core.{Core}
 
 -- the setup that a core was made of
 abbrev pub setup_of : Core → Setup

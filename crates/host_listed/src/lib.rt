@@ -2,6 +2,7 @@
 #![tactic(auto)]
 
 mod best;
-mod core;
 mod decision;
+mod routing;
 mod tables;
+mod update;

@@ -1,13 +1,15 @@
 // What is kept of a peer.
-ghost use Rattle.std.specs.Prelude.{◌≡◌, ◌≤◌, [], length, IfOk, IfSome, OnOk, OnErr};
+ghost use Rattle.std.specs.Prelude.{◌≡◌, ◌≤◌, [], length, filter, not, true, IfOk, IfSome, OnOk, OnErr};
 ghost use Rattle.std.specs.Option.{option_map};
-ghost use Rattle.xb_words.specs.Table.{value_at, with_value, without};
-ghost use Rattle.xb_values.specs.Prefixes.{prefix_cmp};
+ghost use Rattle.xb_words.specs.Table.{has_key, value_at, with_value, without};
+ghost use Rattle.xb_values.specs.Prefixes.{are_prefixes, prefix_cmp, prefixes};
 ghost use Rattle.xb_wire.specs.declared.numbers.TheConstants.{MAX_SECTION};
+ghost use Rattle.spk_model.specs.Routing.{without_all};
 ghost use Rattle.spk_routes.specs.Sound.{IsSound};
 
 use out_sorted::SortedOut;
 use rib_table::{AttrList, PeerTable};
+use spk_routes::{EachPrefix, PrefixSet};
 use std::alloc::{AllocError, Global};
 use std::marker::Model;
 use xb_values::Prefix;
@@ -73,6 +75,33 @@ impl PeerTables {
         ensures { self.new ≡ record self.old { adjin = without prefix_cmp self.old.adjin prefix } }
     {
         let _ = self.sent.remove(prefix);
+    }
+
+    /// Removes the routes that the peer sent of the prefixes that octets write.
+    pub(crate) fn remove_all(&mut self, octets: &[u8])
+        requires { are_prefixes octets.now ≡ true }
+        ensures { self.new
+            ≡ record self.old { adjin = without_all self.old.adjin (prefixes octets.now) } }
+    {
+        let mut rest = EachPrefix::new(octets);
+        'prefixes: while let Some(prefix) = rest.next() {
+            self.remove(prefix);
+        }
+    }
+
+    /// The same of prefixes that a set does not have.
+    pub(crate) fn remove_others(&mut self, octets: &[u8], set: &PrefixSet)
+        requires { are_prefixes octets.now ≡ true }
+        ensures { self.new ≡ record self.old {
+          adjin = without_all self.old.adjin (filter (λ p. not (has_key prefix_cmp set.now p)) (prefixes octets.now));
+        } }
+    {
+        let mut rest = EachPrefix::new(octets);
+        'prefixes: while let Some(prefix) = rest.next() {
+            if !set.has(prefix) {
+                self.remove(prefix);
+            }
+        }
     }
 
     /// Advertises a prefix with a section. The error is want of memory; then nothing changed.
