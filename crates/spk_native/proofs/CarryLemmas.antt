@@ -11,7 +11,8 @@ use Rattle.bgp_attr.specs.declared.codes.TheConstants.{AS_PATH, NEXT_HOP, MULTI_
 use Rattle.bgp_attr.specs.declared.flags.TheConstants.{WELL_KNOWN}
 use Rattle.bgp_attr.specs.declared.rule.AttrFault.{AttrFault}
 use Rattle.bgp_attr.specs.Paths.{path, path_ok, path_octets, prepend}
-use Rattle.bgp_attr.specs.Routes.{Attribute, Route, attribute_at, with_attribute, without_attribute, canon, kept_flags, IsRoute}
+use Rattle.bgp_attr.specs.Routes.{Attribute, Route, attribute_at, with_attribute, without_attribute, canon, kept_flags}
+use Rattle.bgp_attr.specs.Routes.{IsRoute}
 use Rattle.bgp_attr.specs.Rules.{attr_fault, is_known, row_fault}
 use Rattle.bgp_path.specs.Parts.{PathWalk, walk_over, prepended}
 use Rattle.xbgp_view.specs.Views.{flags_and_length}
@@ -145,10 +146,11 @@ pub IsExternal-hop : (r next : Route) (local : Side) (octets : List ℕ) → IsR
     → octets ≡ four_octets local.address → IsExternal r next local octets
 IsExternal-hop r next local octets is short sound n o =
     let text = path_octets 4 (prepend local.asn (path_of r)) in
-    let sent = with_attribute (with_attribute r AS_PATH WELL_KNOWN text) NEXT_HOP WELL_KNOWN (four_octets local.address) in
+    let path = with_attribute r AS_PATH WELL_KNOWN text in
+    let sent = with_attribute path NEXT_HOP WELL_KNOWN (four_octets local.address) in
     let same : with_attribute next NEXT_HOP WELL_KNOWN octets ≡ sent =
     ap (λ l. with_attribute l NEXT_HOP WELL_KNOWN octets) n
-    ∙ ap (λ t. with_attribute (with_attribute r AS_PATH WELL_KNOWN text) NEXT_HOP WELL_KNOWN t) o in
+    ∙ ap (λ t. with_attribute path NEXT_HOP WELL_KNOWN t) o in
     let size : length (canon sent) ≡ length (canon next) =
     length-hop r text (four_octets local.address) is sound refl ∙ ap (λ l. length (canon l)) (sym n) in
     record {

@@ -11,3 +11,8 @@ pub mod FoldLemmas
 pub mod DecisionRows
 pub mod MarksLemmas
 pub mod CarryLemmas
+pub mod FaultLemmas
+pub mod FormedLemmas
+pub mod WideNarrowLemmas
+pub mod SoundLemmas
+pub mod SentLemmas

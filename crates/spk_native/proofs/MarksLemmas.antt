@@ -2,6 +2,7 @@
 use Rattle.std.proofs.Common.{◌≡◌, inl, inr, refl, sym, ap, subst, ◌∙◌, ℕ, ◌+◌, ◌<◌, ◌≤◌, Bool, true, false, List, [], ◌∷◌, length, map, Option, Some, None, arith, min, nat_le, nat_lt}
 use Rattle.std.specs.Prelude.{bit_and, bit_or, not, ◌&&◌, ◌==◌, if◌then◌else◌}
 use Rattle.std.specs.Int.{bit_at}
+use Rattle.std.specs.Option.{option_map}
 use Rattle.std.specs.List.{AllByRecursion}
 use Rattle.std.specs.List.Sorted.{IsStrictlySortedBy}
 use Rattle.std.specs.Map.{keys_of}
@@ -39,7 +40,7 @@ whole-marked_partial : (e : ℕ × Attribute) → marked_partial e ≡ (e.0, (ma
 whole-marked_partial e = ap (λ k. (k, (marked_partial e).1)) (key-marked_partial e)
 
 -- one that is recognized stays
-known-marked_partial : (e : ℕ × Attribute) → is_known e.0 ≡ true → marked_partial e ≡ e
+pub known-marked_partial : (e : ℕ × Attribute) → is_known e.0 ≡ true → marked_partial e ≡ e
 known-marked_partial e known = rw known refl
 
 apart : (a b : ℕ) → b < a → (a == b) ≡ false
@@ -49,7 +50,8 @@ apart a b above = elim (eqb_tells a b) [
 ]
 
 -- entries above a code stay
-marked_at-above : (code : ℕ) (r : Route) → AllByRecursion (λ x. nat_cmp code x ≡ Less) (keys_of r) → marked_at code r ≡ r
+marked_at-above : (code : ℕ) (r : Route) → AllByRecursion (λ x. nat_cmp code x ≡ Less) (keys_of r)
+    → marked_at code r ≡ r
 marked_at-above code [] all = refl
 marked_at-above code (e ∷ r) all =
     ap (λ b. (if b then marked_partial e else e) ∷ marked_at code r) (apart e.0 code (lt-nat_cmp code e.0 all.0))
@@ -146,7 +148,8 @@ marked_at-marked_below (x ∷ r) from code rising e = elim (cases_Bool (nat_lt x
       let above : AllByRecursion (λ k. nat_cmp code k ≡ Less) (keys_of r) =
       subst (λ c. AllByRecursion (λ k. nat_cmp c k ≡ Less) (keys_of r)) (sym same) rising.0 in
       ap (λ b. marked_at code ((if b then marked_partial x else x) ∷ marked_below from r)) here
-      ∙ ap (λ b. (if b then marked_partial x else x) ∷ marked_at code (marked_below from r)) (eq-eqb x.0 code (sym same))
+      ∙ ap (λ b. (if b then marked_partial x else x) ∷ marked_at code (marked_below from r))
+      (eq-eqb x.0 code (sym same))
       ∙ ap (λ (l : Route). marked_partial x ∷ marked_at code l)
       (marked_below-above from code r (omega (arith, same, ltb-false x.0 from here)) above)
       ∙ ap (λ (l : Route). marked_partial x ∷ l)
@@ -280,7 +283,8 @@ kept_flags-partial f kept =
 
 pub marked_at-some : (code : ℕ) (r : Route) (a : Attribute) → IsStrictlySortedBy nat_cmp (keys_of r)
     → attribute_at r code ≡ Some a → kept_flags a.flags ≡ a.flags → is_known code ≡ false → is_transitive a.flags ≡ true
-    → with_value nat_cmp r code (record { flags = kept_flags (bit_or a.flags PARTIAL); value = a.value }) ≡ marked_at code r
+    → with_value nat_cmp r code (record { flags = kept_flags (bit_or a.flags PARTIAL); value = a.value })
+    ≡ marked_at code r
 marked_at-some code r a rising there kept other transitive =
     let marked : marked_partial (code, a) ≡ (code, record { flags = bit_or a.flags PARTIAL; value = a.value }) =
     rw (other, transitive) refl in
@@ -295,7 +299,8 @@ length-canonical-marked e =
     ∙ ap (λ (v : List ℕ). (if nat_lt 255 (length v) then 4 else 3) + length v) (value-marked_partial e)
     ∙ sym (length-canonical e)
 
-length-canon-map : (f : ℕ × Attribute → ℕ × Attribute) → ((e : ℕ × Attribute) → length (canonical (f e)) ≡ length (canonical e))
+length-canon-map : (f : ℕ × Attribute → ℕ × Attribute)
+    → ((e : ℕ × Attribute) → length (canonical (f e)) ≡ length (canonical e))
     → (r : Route) → length (canon (map f r)) ≡ length (canon r)
 length-canon-map f same [] = refl
 length-canon-map f same (e ∷ r) = omega (
@@ -312,7 +317,11 @@ length-canon-marked r = length-canon-map marked_partial length-canonical-marked 
 length-canon-marked_at : (code : ℕ) (r : Route) → length (canon (marked_at code r)) ≡ length (canon r)
 length-canon-marked_at code r =
     length-canon-map (λ e. if e.0 == code then marked_partial e else e)
-    (λ e. elim (cases_Bool (e.0 == code)) [ inl here ↦ rw here (length-canonical-marked e) | inr other ↦ rw other refl ]) r
+    (λ e. elim (cases_Bool (e.0 == code)) [
+      | inl here ↦ rw here (length-canonical-marked e)
+      | inr other ↦ rw other refl
+    ])
+    r
 
 -- an attribute that is set with the flag is marked, and there is room for it
 pub record IsMarkSet (r : Route) (code flags : ℕ) (value : List ℕ) : Type 0 where
@@ -349,3 +358,25 @@ at-marked (e ∷ r) code known = elim (cases_Bool (is_eq (nat_cmp code e.0))) [
       ap (λ k. is_eq (nat_cmp code k)) (key-marked_partial e) ∙ other in
       rw (other, other') (at-marked r code known)
 ]
+
+-- and each other attribute is marked
+pub at-marked_partial : (r : Route) (code : ℕ)
+    → attribute_at (map marked_partial r) code ≡ option_map (λ a. (marked_partial (code, a)).1) (attribute_at r code)
+at-marked_partial [] code = refl
+at-marked_partial (e ∷ r) code = elim (cases_Bool (is_eq (nat_cmp code e.0))) [
+  | inl here ↦
+      let key : code ≡ e.0 = eq-nat_cmp code e.0 (is_eq-true (nat_cmp code e.0) here) in
+      let here' : is_eq (nat_cmp code (marked_partial e).0) ≡ true =
+      ap (λ k. is_eq (nat_cmp code k)) (key-marked_partial e) ∙ here in
+      rw (here, here') (ap (λ k. Some (marked_partial (k, e.1)).1) (sym key))
+  | inr other ↦
+      let other' : is_eq (nat_cmp code (marked_partial e).0) ≡ false =
+      ap (λ k. is_eq (nat_cmp code k)) (key-marked_partial e) ∙ other in
+      rw (other, other') (at-marked_partial r code)
+]
+
+pub keys_of-marked : (r : Route) → keys_of (map marked_partial r) ≡ keys_of r
+keys_of-marked [] = refl
+keys_of-marked (e ∷ r) =
+    ap (λ k. k ∷ keys_of (map marked_partial r)) (key-marked_partial e)
+    ∙ ap (λ (l : List ℕ). e.0 ∷ l) (keys_of-marked r)

@@ -15,7 +15,8 @@ use Rattle.bgp_path.proofs.PrependLemmas.{length-number_octets}
 use Rattle.bgp_path.proofs.SplitsLemmas.{HasNoSegment-empty, by_segments, length-split}
 use Rattle.spk_native.specs.Receipt.{is_wide_path}
 
-length-narrow_numbers : (ns : List ℕ) → length (flat_map (number_octets 2) (map narrow_number ns)) ≡ 2 * length ns
+-- two octets are written for each number
+pub length-narrow_numbers : (ns : List ℕ) → length (flat_map (number_octets 2) (map narrow_number ns)) ≡ 2 * length ns
 length-narrow_numbers [] = refl
 length-narrow_numbers (n ∷ ns) = omega (
   arith,

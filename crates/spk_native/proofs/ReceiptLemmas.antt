@@ -22,7 +22,7 @@ use Rattle.spk_native.specs.Rebuilds.{size_if, set_if, bare, four_of, rebuilt, v
 use Rattle.spk_native.proofs.RebuildsLemmas.{kept, less, over, at-set_if, at-bare, rising-set_if, rising-bare, is_eq-true, at-without, rising-without, length-without}
 
 -- two routes that have the same for each code
-same_route : (r s : Route) → IsStrictlySortedBy nat_cmp (keys_of r) → IsStrictlySortedBy nat_cmp (keys_of s)
+pub same_route : (r s : Route) → IsStrictlySortedBy nat_cmp (keys_of r) → IsStrictlySortedBy nat_cmp (keys_of s)
     → ((q : ℕ) → attribute_at r q ≡ attribute_at s q) → r ≡ s
 unfolding IsStrictlySortedBy
 same_route [] [] rising rising' same = refl
@@ -64,7 +64,7 @@ same_route (d ∷ r) (e ∷ s) rising rising' same =
 is_code : (P : ℕ → Type 0) (code q : ℕ) → is_eq (nat_cmp code q) ≡ true → P code → P q
 is_code P code q e p = subst P (eq-nat_cmp code q (is_eq-true (nat_cmp code q) e)) p
 
-by_code : (P : ℕ → Type 0) → P 2 → P 7 → P 17 → P 18
+pub by_code : (P : ℕ → Type 0) → P 2 → P 7 → P 17 → P 18
     → ((q : ℕ) → is_eq (nat_cmp 2 q) ≡ false → is_eq (nat_cmp 7 q) ≡ false → is_eq (nat_cmp 17 q) ≡ false
     → is_eq (nat_cmp 18 q) ≡ false → P q) → (q : ℕ) → P q
 by_code P p2 p7 p17 p18 other q = elim (cases_Bool (is_eq (nat_cmp 2 q))) [
@@ -85,10 +85,10 @@ by_code P p2 p7 p17 p18 other q = elim (cases_Bool (is_eq (nat_cmp 2 q))) [
 abbrev pub set_four : Four → Route → Route
 set_four f r = set_if 18 f.aggregator4 (set_if 17 f.path4 (set_if 7 f.aggregator (set_if 2 f.path r)))
 
-abbrev four_over : Four → ℕ → Option Attribute → Option Attribute
+abbrev pub four_over : Four → ℕ → Option Attribute → Option Attribute
 four_over f q x = over 18 f.aggregator4 q (over 17 f.path4 q (over 7 f.aggregator q (over 2 f.path q x)))
 
-at-set_four : (f : Four) (r : Route) (q : ℕ) → attribute_at (set_four f r) q ≡ four_over f q (attribute_at r q)
+pub at-set_four : (f : Four) (r : Route) (q : ℕ) → attribute_at (set_four f r) q ≡ four_over f q (attribute_at r q)
 at-set_four f r q =
     let r2 = set_if 2 f.path r in
     let r7 = set_if 7 f.aggregator r2 in
@@ -98,7 +98,7 @@ at-set_four f r q =
     ∙ ap (λ x. over 18 f.aggregator4 q (over 17 f.path4 q x)) (at-set_if r2 7 f.aggregator q)
     ∙ ap (λ x. over 18 f.aggregator4 q (over 17 f.path4 q (over 7 f.aggregator q x))) (at-set_if r 2 f.path q)
 
-rising-set_four : (f : Four) (r : Route) → IsStrictlySortedBy nat_cmp (keys_of r)
+pub rising-set_four : (f : Four) (r : Route) → IsStrictlySortedBy nat_cmp (keys_of r)
     → IsStrictlySortedBy nat_cmp (keys_of (set_four f r))
 rising-set_four f r rising =
     let r2 = set_if 2 f.path r in
@@ -141,7 +141,7 @@ kept_beside-set_if test code (Some a) r = elim (cases_Bool (test a.value)) [
 ]
 
 -- the four attributes that a narrow route gets
-abbrev narrow_set : Route → Four
+abbrev pub narrow_set : Route → Four
 narrow_set r = record {
   path = valued narrow_path (attribute_at r 2);
   aggregator = valued narrow_aggregator (attribute_at r 7);
@@ -149,7 +149,7 @@ narrow_set r = record {
   aggregator4 = beside is_wide_aggregator (attribute_at r 7);
 }
 
-narrow-set_four : (r : Route) → narrow r ≡ set_four (narrow_set r) r
+pub narrow-set_four : (r : Route) → narrow r ≡ set_four (narrow_set r) r
 unfolding narrow
 narrow-set_four r =
     let f = narrow_set r in
@@ -208,7 +208,7 @@ path_ok-AS_PATH : (w flags : ℕ) (value : List ℕ) → attr_fault w 2 flags va
 unfolding attr_fault
 path_ok-AS_PATH w flags value e = path_row _ (path_ok w value) e
 
-length-AGGREGATOR : (w flags : ℕ) (value : List ℕ) → attr_fault w 7 flags value ≡ None → length value ≡ w + 4
+pub length-AGGREGATOR : (w flags : ℕ) (value : List ℕ) → attr_fault w 7 flags value ≡ None → length value ≡ w + 4
 unfolding attr_fault
 length-AGGREGATOR w flags value e = elim (eqb_tells (length value) (w + 4)) [
   | inl here ↦ here.1
@@ -233,7 +233,8 @@ widened-used r = elim (cases_Bool (aggregated_since (attribute_at r 7) (good_agg
   | inr before ↦ rw before refl
 ]
 
-inflow-set_if : (r : Route)
+-- the same, attribute by attribute
+pub inflow-set_if : (r : Route)
     → inflow r false ≡ without_narrow (set_if 7 (wide_four r).aggregator (set_if 2 (wide_four r).path r))
 unfolding inflow
 inflow-set_if r =

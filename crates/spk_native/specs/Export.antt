@@ -1,8 +1,10 @@
 -- What a peer is sent of a route (RFC 4271, sections 5 and 9.1.3; RFC 6793, section 4.1).
-use Rattle.std.specs.Prelude.{ℕ, Bool, List, map, filter, is_some, ◌==◌, ◌&&◌, ◌||◌, not, bit_and, bit_or, if◌then◌else◌}
+use Rattle.std.specs.Prelude.{ℕ, Bool, List, map, filter, is_some, bit_and, bit_or}
+use Rattle.std.specs.Prelude.{◌==◌, ◌&&◌, ◌||◌, not, if◌then◌else◌}
 use Rattle.xb_words.specs.Octets.{four_octets}
 use Rattle.xb_domain.specs.declared.side.Side.{Side}
-use Rattle.bgp_attr.specs.declared.codes.TheConstants.{AS_PATH, NEXT_HOP, MULTI_EXIT_DISC, LOCAL_PREF, AS4_PATH, AS4_AGGREGATOR}
+use Rattle.bgp_attr.specs.declared.codes.TheConstants.{AS_PATH, NEXT_HOP, MULTI_EXIT_DISC, LOCAL_PREF}
+use Rattle.bgp_attr.specs.declared.codes.TheConstants.{AS4_PATH, AS4_AGGREGATOR}
 use Rattle.bgp_attr.specs.declared.flags.TheConstants.{TRANSITIVE, PARTIAL, WELL_KNOWN}
 use Rattle.bgp_attr.specs.Paths.{path_octets, prepend}
 use Rattle.bgp_attr.specs.Routes.{Route, Attribute, attribute_at, with_attribute, without_attribute, canon, as_width}
@@ -39,7 +41,8 @@ marked_partial e =
 abbrev pub to_external : Route → Side → Route
 to_external route local =
     let path = path_octets as_width (prepend local.asn (path_of route)) in
-    let sent = with_attribute (with_attribute route AS_PATH WELL_KNOWN path) NEXT_HOP WELL_KNOWN (four_octets local.address) in
+    let prepended = with_attribute route AS_PATH WELL_KNOWN path in
+    let sent = with_attribute prepended NEXT_HOP WELL_KNOWN (four_octets local.address) in
     without_attribute (without_attribute sent LOCAL_PREF) MULTI_EXIT_DISC
 
 -- an absent LOCAL_PREF is the default (RFC 4271, section 5.1.5)

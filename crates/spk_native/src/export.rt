@@ -5,7 +5,8 @@ ghost use Rattle.bgp_attr.specs.Routes.{as_width, attribute_at, canon, with_attr
 ghost use Rattle.bgp_attr.specs.Rules.{is_known as is_of_row};
 ghost use Rattle.xbgp_view.specs.Sections.{entry_of};
 ghost use Rattle.spk_native.specs.Export.{is_of_narrow as is_of_two, is_passed_on as is_sent};
-ghost use Rattle.spk_native.specs.Export.{carry, marked_partial, native_section as section_of, to_external, to_internal};
+ghost use Rattle.spk_native.specs.Export.{carry, marked_partial, to_external, to_internal};
+ghost use Rattle.spk_native.specs.Export.{native_section as section_of};
 ghost use Rattle.spk_native.specs.Values.{has_sound, path_of};
 ghost use Rattle.spk_native.specs.Marks.{marked_at};
 

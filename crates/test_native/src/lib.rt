@@ -1,18 +1,23 @@
-//! Tests of spk_native from outside: a received section is filtered and ranked in place, and three candidates of which
-//! the decision of two at a time and the decision of the set leave different ones.
+//! Tests of spk_native from outside: a received section is filtered and ranked in place, a section without fault is sent
+//! on, and three candidates of which the decision of two at a time and the decision of the set leave different ones.
 #![tactic(auto)]
 
 ghost use Rattle.std.specs.Prelude.{◌≡◌, ◌≢◌, ◌≤◌, [], ◌∷◌, length};
+ghost use Rattle.std.specs.Bool.{OnTrue};
 ghost use Rattle.bgp_attr.specs.Routes.{route_of};
 ghost use Rattle.spk_native.specs.Decision.{rank, survivor as survivor_in};
+ghost use Rattle.spk_native.specs.Export.{carry, native_section as section_of};
 ghost use Rattle.spk_native.specs.Filters.{accepts_inbound};
 ghost use Rattle.spk_native.specs.Laws.{better_of};
 ghost use Rattle.spk_native.specs.Values.{HasNoFault};
 
 use bgp_attr::MAX_CANONICAL;
-use spk_native::{Rank, inbound_native, rank_of, survivor};
+use bgp_check::check_section4;
+use spk_native::{Rank, export_attrs, inbound_native, native_section, rank_of, survivor};
 use xb_domain::Side;
-use xbgp_view::SectionView;
+use xb_values::Buf;
+use xb_wire::numbers::MAX_MESSAGE;
+use xbgp_view::{Overlay, SectionView};
 
 /// Whether the route of a received section is accepted.
 pub fn is_accepted(section: &[u8], local: &Side) -> bool
@@ -29,6 +34,33 @@ pub fn rank_in(section: &[u8], side: &Side, local_pref: u32, cost: u32) -> Rank
     ensures { result ≡ rank (route_of section.now) side.now local_pref cost }
 {
     rank_of(&SectionView::new(section), side, local_pref, cost)
+}
+
+/// Whether a section of AS numbers of four octets is that of an announcement without fault; `out` is then the section of
+/// what a peer is sent of its route. The overlay is where the route is made.
+pub fn sent_on(
+    section: &[u8],
+    peer: &Side,
+    local: &Side,
+    overlay: &mut Overlay,
+    out: &mut Buf,
+) -> bool
+    requires short { length section.now ≤ MAX_CANONICAL }
+    requires room { MAX_CANONICAL ≤ out.old.capacity }
+    ensures { OnTrue result (out.new ≡ record out.old {
+      octets = section_of (carry (route_of section.now) peer.now peer.now local.now 100);
+    }) }
+{
+    if check_section4(section, true).is_some() {
+        return false;
+    }
+    overlay.read(section);
+    if overlay.section_len() > MAX_MESSAGE {
+        return false;
+    }
+    export_attrs(overlay, peer, peer, local, 100);
+    native_section(overlay, out);
+    true
 }
 
 /// The decision of two.

@@ -1,9 +1,12 @@
 ghost use Rattle.std.specs.Prelude.{◌≡◌};
 
-use crate::{best_of_three, best_of_two, is_accepted};
+use crate::{best_of_three, best_of_two, is_accepted, sent_on};
+use bgp_attr::MAX_CANONICAL;
 use spk_native::{EXTERNAL, INTERNAL, Rank, outbound_native};
 use std::test::Fail;
 use xb_domain::Side;
+use xb_values::Buf;
+use xbgp_view::Overlay;
 
 const LOCAL: Side = Side {
     number: 0,
@@ -50,6 +53,44 @@ const OTHER: [u8; 24] = [
 fn own_as_is_rejected(rt: HostRuntime) -> Result<(), Fail> {
     assert!(rt; !is_accepted(&LOOPED, &LOCAL));
     assert!(rt; is_accepted(&OTHER, &LOCAL));
+    Ok(())
+}
+
+// OTHER, LOCAL_PREF 200, and an attribute of code 200 that is optional and transitive
+const OFFERED: [u8; 35] = [
+    0x40, 1, 1, 0, 0x40, 2, 10, 2, 2, 0, 0, 0xfd, 0xe9, 0, 0, 0xfd, 0xea, 0x40, 3, 4, 0xc0, 0, 2,
+    1, 0x40, 5, 4, 0, 0, 0, 200, 0xc0, 200, 1, 7,
+];
+
+// the same with AS 65000 in front, the local address and the partial flag, without LOCAL_PREF
+const SENT_OUTSIDE: [u8; 32] = [
+    0x40, 1, 1, 0, 0x40, 2, 14, 2, 3, 0, 0, 0xfd, 0xe8, 0, 0, 0xfd, 0xe9, 0, 0, 0xfd, 0xea, 0x40,
+    3, 4, 0xc0, 0, 2, 0xfe, 0xe0, 200, 1, 7,
+];
+
+// OFFERED with the partial flag
+const SENT_INSIDE: [u8; 35] = [
+    0x40, 1, 1, 0, 0x40, 2, 10, 2, 2, 0, 0, 0xfd, 0xe9, 0, 0, 0xfd, 0xea, 0x40, 3, 4, 0xc0, 0, 2,
+    1, 0x40, 5, 4, 0, 0, 0, 200, 0xe0, 200, 1, 7,
+];
+
+#[test]
+fn a_route_is_sent_on(rt: HostRuntime) -> Result<(), Fail> {
+    let mut overlay = Overlay::make(rt.alloc())?;
+    let mut out = Buf::make(rt.alloc(), MAX_CANONICAL)?;
+    assert!(rt; sent_on(&OFFERED, &peer(1, EXTERNAL), &LOCAL, &mut overlay, &mut out));
+    assert_eq!(rt; out.as_slice(), SENT_OUTSIDE.as_slice());
+    assert!(rt; sent_on(&OFFERED, &peer(1, INTERNAL), &LOCAL, &mut overlay, &mut out));
+    assert_eq!(rt; out.as_slice(), SENT_INSIDE.as_slice());
+    assert!(rt;
+        !sent_on(
+            &OFFERED[4..],
+            &peer(1, EXTERNAL),
+            &LOCAL,
+            &mut overlay,
+            &mut out
+        )
+    );
     Ok(())
 }
 

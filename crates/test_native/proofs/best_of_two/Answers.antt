@@ -1,4 +1,4 @@
-use Rattle.std.proofs.Common.{ap, sym, ◌∙◌}
+use Rattle.std.proofs.Common.{ap, sym}
 use Rattle.spk_native.proofs.LeftLemmas.{no_rank}
 use Rattle.spk_native.specs.Laws.{first_or}
 use Rattle.test_native.proofs.ApartLemmas.{AreApart-two}

@@ -27,4 +27,5 @@ pub returns-else-flags-ne0 : goal.returns-else-flags-ne0
 returns-else-flags-ne0 c =
     ap (λ r. record { route = r; kept = c.args.route.now.kept })
     (sym (marked_at-left c.args.code c.args.route.now.route c.in-Some.held c.copy_out.ensures.shape.rising
-    (sym c.in-Some.ensures.value) (ap is_transitive (sym c.flags-flags.ensures) ∙ is_transitive-unset c.flags-flags.result c.if-flags-ne0.false)))
+    (sym c.in-Some.ensures.value) (ap is_transitive (sym c.flags-flags.ensures)
+    ∙ is_transitive-unset c.flags-flags.result c.if-flags-ne0.false)))

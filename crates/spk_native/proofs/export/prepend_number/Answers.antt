@@ -23,7 +23,8 @@ path c =
     c.in-Some-wide.ensures.whole c.prepend_into.ensures.bound
 
 -- what is set
-text : (c : goal.After-set) → take c.unwrap_or-len.result c.prepend_into.new.out ≡ prepended c.in-Some-wide.path c.args.asn
+text : (c : goal.After-set)
+    → take c.unwrap_or-len.result c.prepend_into.new.out ≡ prepended c.in-Some-wide.path c.args.asn
 text c =
     take-written c.prepend_into.result _ c.prepend_into.new.out (prepended c.in-Some-wide.path c.args.asn)
     c.unwrap_or-len.result MAX_CANONICAL c.prepend_into.ensures.written refl (path c).short c.unwrap_or-len.ensures
@@ -31,7 +32,8 @@ text c =
 pub returns-clause-after : goal.returns-clause-after
 returns-clause-after c =
     let r = c.args.route.now.route in
-    let set = ap (λ t. nat_le (length (canon (with_attribute r AS_PATH WELL_KNOWN t))) MAX_CANONICAL) (text c) ∙ (path c).fits in
+    let set = ap (λ t. nat_le (length (canon (with_attribute r AS_PATH WELL_KNOWN t))) MAX_CANONICAL) (text c)
+    ∙ (path c).fits in
     (rw set at c.set.ensures.after)
     ∙ ap (λ t. record { route = with_attribute r AS_PATH WELL_KNOWN t; kept = c.args.route.now.kept })
     (text c ∙ (path c).text)

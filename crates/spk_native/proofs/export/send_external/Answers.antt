@@ -7,7 +7,8 @@ use Rattle.spk_native.proofs.CarryLemmas.{IsExternal, IsExternal-hop}
 use Rattle.spk_native.proofs.export.send_external.Goals as goal
 
 -- the route after its path was set
-external : (c : goal.After-unset-2) → IsExternal c.args.route.now.route c.prepend_number.new.route.route c.args.local.now c.to_be_bytes.result
+external : (c : goal.After-unset-2)
+    → IsExternal c.args.route.now.route c.prepend_number.new.route.route c.args.local.now c.to_be_bytes.result
 external c =
     IsExternal-hop c.args.route.now.route c.prepend_number.new.route.route c.args.local.now c.to_be_bytes.result
     c.prepend_number.ensures.shape (omega (arith, c.prepend_number.ensures.bound, c.requires.short))
