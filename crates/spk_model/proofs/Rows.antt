@@ -1,6 +1,6 @@
 -- Worked rows of whole replays, by evaluation: a log under a configuration and a manifest gives a report. All sessions have AS numbers of two
 -- octets where nothing is said; the speaker's own routes have four.
-use Rattle.std.proofs.Common.{◌≡◌, refl, ℕ, List, [], ◌∷◌, ◌++◌, map, Option, Some, None}
+use Rattle.std.proofs.Common.{◌≡◌, refl, ℕ, List, [], ◌∷◌, ◌++◌, Some, None}
 use Rattle.std.specs.Prelude.{codes, flat_map}
 use Rattle.std.specs.Fmt.{digits}
 use Rattle.xb_words.specs.Cut.{cut}
@@ -10,9 +10,8 @@ use Rattle.xb_domain.specs.declared.point.Point.TheVariants.{Receive, Inbound, D
 use Rattle.xb_values.specs.Prefixes.{Prefix, prefix_of}
 use Rattle.xb_values.specs.Readers.{read_hex}
 use Rattle.xbgp_config.specs.Configs.{Config}
-use Rattle.xbgp_manifest.specs.Manifests.{Manifest, no_manifest}
+use Rattle.xbgp_manifest.specs.Manifests.{no_manifest}
 use Rattle.xbgp_manifest.specs.declared.entries.ProgramEntry.{ProgramEntry}
-use Rattle.spk_model.specs.declared.host.Setup.{Setup}
 use Rattle.spk_model.specs.Reports.{report}
 use Rattle.bgp_write.specs.Pending.{pending, form}
 use Rattle.bgp_attr.specs.Rules.{attr_fault}

@@ -1,5 +1,6 @@
 -- What the best route of a prefix is chosen from, and what a choice leaves (this project's own).
-use Rattle.std.specs.Prelude.{ℕ, List}
+use Rattle.std.specs.Prelude.{◌≢◌, ℕ, List}
+use Rattle.std.specs.List.{AllPairs}
 use Rattle.xb_domain.specs.declared.point.Point.{Point}
 use Rattle.xb_domain.specs.declared.side.Side.{Side}
 use Rattle.bgp_attr.specs.Routes.{Route}
@@ -22,3 +23,7 @@ pub record Choice : Type 0 where
   pub index : ℕ
   pub engine : Engine
   pub trace : Trace
+
+-- candidates whose addresses are distinct, as those of one prefix are
+abbrev pub AreRivals : List Candidate → Type 0
+AreRivals cs = AllPairs (λ a b. (a.rank).address ≢ (b.rank).address) cs

@@ -7,14 +7,13 @@ use Rattle.xb_values.specs.Prefixes.{Prefix}
 use Rattle.xb_wire.specs.declared.numbers.TheConstants.{MAX_SECTION}
 use Rattle.bgp_attr.specs.Routes.{Route}
 use Rattle.spk_native.specs.Filters.{accepts_outbound}
-use Rattle.spk_native.specs.Export.{native_section}
+use Rattle.spk_native.specs.Export.{carry, native_section}
 use Rattle.spk_native.specs.Receipt.{wire}
 use Rattle.xbgp_manifest.specs.Manifests.{Manifest}
 use Rattle.xbgp_points.specs.declared.outcome.Outcome.{Outcome}
 use Rattle.xbgp_points.specs.declared.outcome.Outcome.TheVariants.{Verdict, Native, Failed}
 use Rattle.xbgp_points.specs.Points.{Engine, outbound, encode, given_section}
 use Rattle.spk_model.specs.Choosing.{Trace}
-use Rattle.spk_model.specs.Carry.{carry}
 
 -- what is advertised of a best route, if anything is, and what the programs left
 pub record Exported : Type 0 where

@@ -1,10 +1,10 @@
 pub mod Sources
 pub mod Choosing
 pub mod Tournaments
-pub mod Carry
 pub mod Exporting
 pub mod Routing
 pub mod Turning
 pub mod Reports
 pub mod Readers
 pub mod Playing
+pub mod Laws

@@ -298,8 +298,8 @@ emit_turns rule (suc turns) t p limit =
     unless_spent (is_spent limit)
     (λ u. rest_or_form rule (λ v l. emit_turns rule turns v p l) u p limit (nat_lt 0 (length (rest_of u p)))) t
 
--- what is left and what is pending leaves for an Established peer, up to a limit; each formed message tells at least one
--- pending prefix and takes two steps
+-- what is left and what is pending leaves for an Established peer, up to a limit; each formed message tells one pending
+-- prefix at least, and takes two steps
 unfoldable pub emit : Packing → Turn → ℕ → Option ℕ → Turn
 emit rule t p limit =
     if is_up (t.speaker).sessions p

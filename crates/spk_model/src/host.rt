@@ -52,8 +52,10 @@ pub trait Host: Sized + Drop {
     fn step(self, alloc: Global, event: Event<'_>, out: &mut Outputs) -> Result<Self, AllocError>
         requires { AreConfigured (built_from self) (speaker self) (event_view event) }
         ensures setup { IfOk result (λ h. built_from h ≡ built_from self) }
-        ensures speaker { IfOk result (λ h. speaker h ≡ (happens RULE (built_from self) (speaker self) (event_view event.entry)).speaker) }
-        ensures outputs { OnOk result (out.new ≡ out.old ++ (happens RULE (built_from self) (speaker self) (event_view event.entry)).outputs) }
+        ensures speaker { IfOk result (λ h. speaker h
+            ≡ (happens RULE (built_from self) (speaker self) (event_view event.entry)).speaker) }
+        ensures outputs { OnOk result (out.new
+            ≡ out.old ++ (happens RULE (built_from self) (speaker self) (event_view event.entry)).outputs) }
         ensures front { take (length out.old) out.new ≡ out.old };
 
     /// The best route at the first prefix after `after`, or at the first of all: its prefix and the number of its
@@ -61,7 +63,8 @@ pub trait Host: Sized + Drop {
     fn route_after(&self, after: Option<Prefix>, section: &mut Buf) -> Option<(Prefix, u32)>
         requires { MAX_CANONICAL ≤ section.old.capacity }
         ensures route { result ≡ option_map (λ e. (e.0, (e.1).source)) (best_after (speaker self.now) after) }
-        ensures section { section.new ≡ showing section.old (option_map (λ e. canon (e.1).route) (best_after (speaker self.now) after)) };
+        ensures section { section.new
+            ≡ showing section.old (option_map (λ e. canon (e.1).route) (best_after (speaker self.now) after)) };
 
     /// The first prefix after `after`, or the first of all, that a peer is advertised. Its section, in the form of the
     /// peer's session, replaces the content of `section`.
@@ -69,7 +72,8 @@ pub trait Host: Sized + Drop {
         requires room { MAX_CANONICAL ≤ section.old.capacity }
         requires peer { IsPeer (built_from self.now) peer }
         ensures prefix { result ≡ option_map (λ e. e.0) (advertised_after (speaker self.now) peer after) }
-        ensures section { section.new ≡ showing section.old (option_map (λ e. e.1) (advertised_after (speaker self.now) peer after)) };
+        ensures section { section.new
+            ≡ showing section.old (option_map (λ e. e.1) (advertised_after (speaker self.now) peer after)) };
 
     /// Whether a peer's session is Established and nothing is left to tell it.
     fn drained(&self, peer: u32) -> bool
@@ -79,7 +83,8 @@ pub trait Host: Sized + Drop {
     /// The entry of a map with the first key after `after`, or the first of all.
     fn map_after(&self, map: u32, after: Option<&[u8]>) -> Option<(&[u8], &[u8])>
         requires { map < length ((built_from self.now).manifest).maps }
-        ensures { option_map (λ e. (e.0.now, e.1.now)) result ≡ map_entry_after (speaker self.now) map (option_map (λ k. k.now) after.entry) };
+        ensures { option_map (λ e. (e.0.now, e.1.now)) result
+            ≡ map_entry_after (speaker self.now) map (option_map (λ k. k.now) after.entry) };
 
     /// Whether a fault of a program with this cause was noted.
     fn fault_noted(&self, program: u32, cause: Cause) -> bool
