@@ -23,6 +23,7 @@ mod decision;
 mod encode;
 mod facts;
 mod inbound;
+pub mod laws;
 mod maps;
 pub mod numbers;
 mod outbound;

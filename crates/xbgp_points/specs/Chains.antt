@@ -116,9 +116,11 @@ exited point before faults program r world =
     else failed before faults program causes.BadOutput)
     else failed before faults program causes.BadReturn
 
--- a run of one program: it has fresh registers, stack, heap and fuel, and all of the heap is free
+-- a run of one program: it has fresh registers, stack, heap and fuel, and what it took of the heap is free afterwards
 abbrev pub run_program : Point → List ℕ → ProgramEntry → World → Ended World
-run_program point window p world = bpf (help point) p.code (fresh window) p.fuel (record world { mark = 0 })
+run_program point window p world =
+    let ended = bpf (help point) p.code (fresh window) p.fuel world in
+    record ended { world = record (ended.world) { mark = 0 } }
 
 -- how a chain goes on after a program; the rest is what the programs after it do
 abbrev pub after_program : (World → Chained) → Point → World → Faults → ℕ → End → World → Chained
@@ -133,6 +135,6 @@ chain_from point window before faults (p ∷ ps) world =
     let ended = run_program point window p.1 world in
     after_program (chain_from point window before faults ps) point before faults p.0 ended.end ended.world
 
--- the chain of a point; the heap mark is no part of what it leaves
+-- the chain of a point, on a world of which no heap is taken
 unfoldable pub chain : Manifest → Point → List ℕ → World → Faults → Chained
 chain manifest point window world faults = chain_from point window world faults (programs_at manifest point) world

@@ -7,7 +7,7 @@ use Rattle.xb_domain.specs.declared.side.Side.{Side}
 use Rattle.xb_values.specs.Prefixes.{Prefix}
 use Rattle.bgp_attr.specs.Routes.{Route}
 use Rattle.xbgp_maps.specs.Mappings.{Mapping}
-use Rattle.xbgp_helpers.specs.Worlds.{World}
+use Rattle.xbgp_helpers.specs.Worlds.{World, nobody, nowhere}
 use Rattle.xbgp_manifest.specs.Manifests.{Manifest}
 use Rattle.xbgp_points.specs.declared.outcome.Outcome.{Outcome}
 use Rattle.xbgp_points.specs.declared.outcome.Outcome.TheVariants.{Verdict, Native, Failed}
@@ -35,14 +35,6 @@ called c = record {
   engine = record { maps = (c.world).maps; faults = c.faults };
   wrote = not (is_failed c.outcome) && nat_lt 0 (c.world).writes;
 }
-
--- a side that no helper of the point asks for
-abbrev pub nobody : Side
-nobody = record { number = 0; asn = 0; address = 0; id = 0; kind = 0 }
-
--- a prefix that no helper of the point asks for
-abbrev pub nowhere : Prefix
-nowhere = record { addr = 0; len = 0 }
 
 -- the world of a point before its first program
 abbrev pub world_of : Engine → Side → Side → Side → Prefix → ℕ → Route → Route → Side → World
