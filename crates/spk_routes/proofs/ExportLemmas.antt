@@ -25,13 +25,13 @@ pub passes : (config : Config) (old new : Kept) (peer source : Side) (prefix : P
     → old.local ≡ config.local → own ≡ config.local → pref ≡ config.local_pref
     → loaded ≡ best → carried ≡ carry loaded source peer own pref
     → Answers (outbound old.manifest old.local old.engine peer source prefix best carried) old new o left
-    → native ≡ accepts_outbound source peer → passed ≡ accepted o native → HasNoFault left
+    → native ≡ accepts_outbound source peer → passed ≡ accepted o native → IsRoute left → HasNoFault left
     → Passes
       (outbound old.manifest config.local old.engine peer source prefix best
         (carry best source peer config.local config.local_pref))
       (accepts_outbound source peer) old new left passed
 passes config old new peer source prefix best loaded carried left o own pref native passed
-    local own_is pref_is loaded_is carried_is answers native_is passed_is faultless =
+    local own_is pref_is loaded_is carried_is answers native_is passed_is shape faultless =
     let by : Side → Route → Called = λ l r. outbound old.manifest l old.engine peer source prefix best r in
     let route_is : carried ≡ carry best source peer config.local config.local_pref =
         carried_is
@@ -46,6 +46,7 @@ passes config old new peer source prefix best loaded carried left o own pref nat
         ∙ ap (accepted (by config.local (carry best source peer config.local config.local_pref)).outcome) native_is;
       route = answers.route ∙ ap (λ (c : Called). c.route) same;
       after = answers.after ∙ ap (λ (c : Called). record old { engine = c.engine; wrote = c.wrote }) same;
+      shape = shape;
       faultless = faultless;
     }
 

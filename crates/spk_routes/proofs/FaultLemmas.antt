@@ -1,4 +1,4 @@
--- Routes without faults (STAND-INS for lemmas of spk_native).
+-- The section that is sent of a route without faults.
 use Rattle.std.proofs.Common.{◌≡◌, ◌∙◌, sym, ap, subst, ℕ, Bool, true, false, List, [], length, Option, Some, None}
 use Rattle.std.specs.Prelude.{IfSome, IsTrue, ◌&&◌, nat_le, unwrap_or}
 use Rattle.xb_wire.specs.declared.numbers.TheConstants.{MAX_SECTION}
@@ -8,28 +8,20 @@ use Rattle.bgp_check.specs.Judgement.{is_clean}
 use Rattle.xbgp_config.specs.Configs.{is_host_address}
 use Rattle.spk_native.specs.Export.{carry, native_section}
 use Rattle.spk_native.specs.Values.{HasNoFault}
+use Rattle.spk_native.proofs.SoundLemmas.{HasNoFault-clean}
+use Rattle.spk_native.proofs.SentLemmas.{HasNoFault-native_section}
 use Rattle.xbgp_points.specs.declared.outcome.Outcome.{Outcome}
 use Rattle.xbgp_points.specs.declared.outcome.Outcome.TheVariants.{Verdict, Native, Failed}
 use Rattle.xbgp_points.specs.Chains.{encoded, is_sendable}
 use Rattle.xbgp_points.specs.Points.{Called, given_section, section_by, section_left}
 use Rattle.spk_routes.specs.Exports.{given_or}
 
-pub carry_faultless : (r : Route) (source peer local : Side) (default : ℕ) → IsTrue (is_host_address local.address)
-    → HasNoFault r → HasNoFault (carry r source peer local default)
-carry_faultless r source peer local default host none = ?
-
-pub clean_faultless : (s : List ℕ) → is_clean s ≡ true → HasNoFault (route_of s)
-clean_faultless s clean = ?
-
-pub native_faultless : (r : Route) → IsRoute r → HasNoFault r → HasNoFault (route_of (native_section r))
-native_faultless r is none = ?
-
 and_right : (a b : Bool) → (a && b) ≡ true → b ≡ true
 and_right true b e = e
 and_right false b e = absurd (cc e)
 
 sent_clean : (s : List ℕ) → IsTrue (is_sendable s) → HasNoFault (route_of s)
-sent_clean s is = clean_faultless s (and_right (nat_le (length s) MAX_SECTION) (is_clean s) is)
+sent_clean s is = HasNoFault-clean s (and_right (nat_le (length s) MAX_SECTION) (is_clean s) is)
 
 -- the section that programs gave, or the native one, has no fault
 by_outcome : (o : Outcome) (route : Route) (buffer native : List ℕ)
@@ -50,4 +42,4 @@ given_faultless c route o given native result o_is given_is sendable native_is i
         ∙ ap (λ (s : List ℕ). given_or c.outcome s native) given_is
         ∙ ap (given_or c.outcome (section_left c)) native_is in
     subst (λ (s : List ℕ). HasNoFault (route_of s)) (sym all)
-    (by_outcome c.outcome c.route c.buffer (native_section route) sendable (native_faultless route is none))
+    (by_outcome c.outcome c.route c.buffer (native_section route) sendable (HasNoFault-native_section route is none))

@@ -1,7 +1,7 @@
 -- What the export of a best route leaves (for `Exporter::export` and the private functions of export.rt).
 use Rattle.std.specs.Prelude.{◌≡◌, ◌≤◌, ℕ, Bool, true, false, List, length, Some, None}
 use Rattle.xb_wire.specs.declared.numbers.TheConstants.{MAX_SECTION}
-use Rattle.bgp_attr.specs.Routes.{Route}
+use Rattle.bgp_attr.specs.Routes.{Route, IsRoute}
 use Rattle.spk_native.specs.Values.{HasNoFault}
 use Rattle.xbgp_points.specs.declared.outcome.Outcome.{Outcome}
 use Rattle.xbgp_points.specs.declared.outcome.Outcome.TheVariants.{Verdict, Native, Failed}
@@ -26,6 +26,7 @@ pub record Passes (c : Called) (native : Bool) (old new : Kept) (left : Route) (
   pub accepted : passed ≡ accepted c.outcome native
   pub route : left ≡ c.route
   pub after : new ≡ record old { engine = c.engine; wrote = c.wrote }
+  pub shape : IsRoute left
   pub faultless : HasNoFault left
 
 -- the section that programs gave, or the native one

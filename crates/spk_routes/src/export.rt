@@ -1,6 +1,6 @@
 // What a best route becomes for a peer.
 ghost use Rattle.std.specs.Prelude.{◌≡◌, ◌≤◌, [], length, Some, None, IfOk, IsTrue, MatchBool};
-ghost use Rattle.bgp_attr.specs.Routes.{route_of};
+ghost use Rattle.bgp_attr.specs.Routes.{route_of, IsRoute};
 ghost use Rattle.spk_native.specs.Export.{carry};
 ghost use Rattle.spk_native.specs.Filters.{accepts_outbound};
 ghost use Rattle.spk_native.specs.Receipt.{wire};
@@ -70,6 +70,13 @@ fn given_section<'a>(outcome: &Outcome, given: &'a [u8], native: &'a [u8]) -> &'
     }
 }
 
+// Shows contracts that an overlay has a route that a view may show.
+fn see_shape(route: &Overlay)
+    ensures { IsRoute route.now.route }
+{
+    let _ = route.code_from(0);
+}
+
 // Writes a section in the form of a session, and returns whether it is short enough to be sent.
 fn write_form(section: &[u8], wide: bool, route: &mut Overlay, out: &mut Buf) -> bool
     requires short { length section.now ≤ MAX_CANONICAL }
@@ -113,8 +120,10 @@ fn pass_outbound<R: RouteView>(
         (accepts_outbound source.now peer.now) engine.old engine.new route.new.route result }
 {
     route.load(best);
+    see_shape(route);
     export_attrs(route, source, peer, &local_of(config), local_pref_of(config));
     let outcome = engine.outbound(peer, source, prefix, best, route);
+    see_shape(route);
     accepts(&outcome, outbound_native(source, peer))
 }
 
@@ -128,6 +137,7 @@ fn encode_route<R: RouteView>(
     best: &R,
     out: &mut Sections,
 ) -> bool
+    requires shape { IsRoute route.old.route }
     requires faultless { HasNoFault route.old.route }
     requires room { HaveRoom out.old }
     ensures exports { (trace : Trace) → Exports

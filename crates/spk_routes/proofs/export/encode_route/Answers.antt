@@ -16,4 +16,4 @@ write_form-requires-clause-faultless g c =
     (c.as_slice-2.ensures.value ∙ ap (λ (b : Buffer). b.octets) c.encode-outcome.ensures.section)
     c.encode-outcome.ensures.sendable
     (c.as_slice-3.ensures.value ∙ ap (λ (b : Buffer). b.octets) c.native_section.ensures)
-    ? c.requires.faultless c.given_section-section.ensures
+    c.requires.shape c.requires.faultless c.given_section-section.ensures

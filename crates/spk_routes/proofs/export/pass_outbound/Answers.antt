@@ -6,7 +6,9 @@ use Rattle.bgp_attr.specs.Routes.{Route}
 use Rattle.xbgp_view.specs.Views.{Edited}
 use Rattle.spk_native.specs.Values.{HasNoFault}
 use Rattle.spk_routes.proofs.ExportLemmas.{passes}
-use Rattle.spk_routes.proofs.FaultLemmas.{carry_faultless}
+use Rattle.bgp_attr.specs.Routes.{IsRoute}
+use Rattle.spk_native.proofs.FormedLemmas.{IsFormed-IsRoute}
+use Rattle.spk_native.proofs.SentLemmas.{HasNoFault-carry}
 use Rattle.spk_routes.proofs.export.pass_outbound.Goals as goal
 
 pub returns : goal.returns
@@ -19,10 +21,11 @@ returns g c =
     c.outbound-outcome.result c.local_of.result c.local_pref_of.result c.outbound_native.result c.accepts.result
     c.requires.local c.local_of.ensures.value c.local_pref_of.ensures loaded carried
     c.outbound-outcome.ensures.answers c.outbound_native.ensures c.accepts.ensures
+    c.see_shape-2.ensures
     (c.outbound-outcome.ensures.keeps.faultless
       (subst HasNoFault (sym carried)
-        (carry_faultless c.load.new.self.route c.args.source.now c.args.peer.now c.local_of.result
-          c.local_pref_of.result
+        (HasNoFault-carry c.load.new.self.route c.args.source.now c.args.peer.now c.local_of.result
+          c.local_pref_of.result (IsFormed-IsRoute c.load.new.self.route c.see_shape.ensures)
+          (subst HasNoFault (sym loaded) c.requires.sound.faultless)
           (subst (λ (s : Side). IsTrue (is_host_address s.address)) (sym c.local_of.ensures.value)
-            c.local_of.ensures.kept.address)
-          (subst HasNoFault (sym loaded) c.requires.sound.faultless))))
+            c.local_of.ensures.kept.address))))
