@@ -93,6 +93,7 @@ lands a e ts x sessions prefix p tables o after ready least most is manifest loc
         ∙ sym items in
     record {
       ready = record {
+        few = ready.few;
         local = local ∙ ready.local;
         own = ready.own;
         count = ap length items

@@ -1,2 +1,3 @@
 mod FollowingLemmas
+mod TablesLemmas
 mod ExportLemmas

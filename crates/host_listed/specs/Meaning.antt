@@ -1,6 +1,7 @@
 -- The routes that a core keeps, and what it is for a function of it to follow a definition (this project's own).
 use Rattle.std.specs.Prelude.{◌≡◌, ℕ, ◌≤◌, List, length}
 use Rattle.std.specs.List.{AllByRecursion}
+use Rattle.xbgp_config.specs.declared.limits.TheConstants.{MAX_PEERS}
 use Rattle.spk_model.specs.declared.host.Setup.{Setup}
 use Rattle.spk_model.specs.Choosing.{Trace}
 use Rattle.spk_model.specs.Sources.{local_route}
@@ -21,6 +22,7 @@ routed trace c = record { routing = routing_of c; trace = trace }
 
 -- what every core keeps
 pub record IsReady (c : Core) : Type 0 where
+  pub few : length c.config.peers ≤ MAX_PEERS
   pub local : c.engine.local ≡ c.config.local
   pub own : c.own ≡ record { source = 0; route = local_route c.config }
   pub count : length c.peers.items ≡ length c.config.peers

@@ -1,17 +1,14 @@
 // The candidates of a prefix, and the best among them.
-ghost use Rattle.std.specs.Prelude.{◌≡◌, ◌≢◌, ◌≤◌, ◌<◌, length, AllPairs, IfOk};
-ghost use Rattle.spk_native.specs.declared.decision.TheConstants.{MAX_CANDIDATES};
+ghost use Rattle.std.specs.Prelude.{◌≡◌, length, IfOk};
 ghost use Rattle.spk_model.specs.Sources.{local_route};
-ghost use Rattle.spk_model.specs.Tournaments.{choose as choice};
-ghost use Rattle.spk_routes.specs.Candidates.{shown};
 ghost use Rattle.host_listed.specs.Deciding.{AreFound, IsWinner};
 
 use crate::best::Best;
 use crate::tables::PeerTables;
 use bgp_fsm::Session;
 use rib_table::AttrList;
-use spk_model::Field;
-use spk_routes::{Contenders, is_network, side_of};
+use spk_model::{Field, choose};
+use spk_routes::{Contenders, is_network, local_of, side_of};
 use std::alloc::{AllocError, Global};
 use xb_values::Prefix;
 use xbgp_config::Config;
@@ -31,9 +28,10 @@ fn gather<'a>(
     requires count { length peers.now ≡ length config.now.peers }
     ensures { IfOk result (AreFound config.now sessions.now peers.now prefix) }
 {
+    let local = local_of(config);
     let mut found = Contenders::make(alloc);
     if is_network(config, prefix) {
-        found.add(config, side_of(config, sessions, 0), own.route())?;
+        found.add(config, local, own.route())?;
     }
     'peers: for (i, peer) in peers.iter().enumerate() {
         if let Some(route) = peer.route(prefix) {
@@ -41,23 +39,6 @@ fn gather<'a>(
         }
     }
     Ok(found)
-}
-
-// STAND-IN for choose
-fn pick(engine: &mut Engine, prefix: Prefix, found: &Contenders<'_, AttrList>) -> usize
-    requires some { 1 ≤ length (shown (λ r. r) found.now) }
-    requires few { length (shown (λ r. r) found.now) ≤ MAX_CANDIDATES }
-    requires apart { AllPairs (λ a b. (a.rank).address ≢ (b.rank).address) (shown (λ r. r) found.now) }
-    ensures index { result ≡
-        (choice engine.old.manifest engine.old.local engine.old.engine prefix (shown (λ r. r) found.now)).index }
-    ensures within { result < length (shown (λ r. r) found.now) }
-    ensures engine { engine.new.engine ≡
-        (choice engine.old.manifest engine.old.local engine.old.engine prefix (shown (λ r. r) found.now)).engine }
-    ensures manifest { engine.new.manifest ≡ engine.old.manifest }
-    ensures local { engine.new.local ≡ engine.old.local }
-{
-    let _ = engine.wrote();
-    found.count()
 }
 
 /// The best of the routes that a prefix has, if it has one.
@@ -79,7 +60,7 @@ pub(crate) fn winner(
     if found.count() == 0 {
         return Ok(None);
     }
-    let i = pick(engine, prefix, &found);
+    let i = choose(engine, prefix, &found);
     let best = Best::copy_of(alloc, found.side(i).number, found.view(i))?;
     Ok(Some(best))
 }

@@ -19,10 +19,11 @@ use Rattle.spk_routes.specs.Sound.{IsSound}
 use Rattle.spk_routes.proofs.RangeLemmas.{range_with_len-more}
 
 -- the candidate of a peer, if it sent a route
-abbrev one_of : Config → List Owned → (ℕ → Option Route) → ℕ → Option Candidate
+abbrev pub one_of : Config → List Owned → (ℕ → Option Route) → ℕ → Option Candidate
 one_of config sessions sent p = option_map (candidate_of config (side_of config sessions p)) (sent p)
 
-abbrev with_one : List Candidate → Option Candidate → List Candidate
+-- with one candidate more, if there is one
+abbrev pub with_one : List Candidate → Option Candidate → List Candidate
 with_one cs None = cs
 with_one cs (Some c) = cs ++ c ∷ []
 
@@ -31,7 +32,7 @@ cons_none cs None = grind (arith, common_steps)
 cons_none cs (Some c) = refl
 
 -- the candidates with one peer more
-found_more : (config : Config) (sessions : List Owned) (l : Bool) (sent : ℕ → Option Route) (n : ℕ)
+pub found_more : (config : Config) (sessions : List Owned) (l : Bool) (sent : ℕ → Option Route) (n : ℕ)
     → found_in config sessions l sent (n + 1) ≡ with_one (found_in config sessions l sent n) (one_of config sessions sent (1 + n))
 found_more config sessions l sent n =
     let h : ℕ → Option Candidate = one_of config sessions sent in
@@ -68,7 +69,8 @@ abbrev OfSide : Config → List Owned → ℕ → Candidate → Type 0
 OfSide config sessions n c =
     (q : ℕ) × (q ≤ n) × (c.side ≡ side_of config sessions q) × ((c.rank).address ≡ (c.side).address)
 
-one_more : (config : Config) (sessions : List Owned) (n : ℕ) (cs : List Candidate) (o : Option Route)
+-- they stay good
+pub one_more : (config : Config) (sessions : List Owned) (n : ℕ) (cs : List Candidate) (o : Option Route)
     → IsConfig config → 1 + n ≤ length config.peers → IfSome o IsSound → AreGood config sessions n cs
     → AreGood config sessions (n + 1) (with_one cs (option_map (candidate_of config (side_of config sessions (1 + n))) o))
 one_more config sessions n cs None is most sound good = record {
@@ -92,7 +94,7 @@ one_more config sessions n cs (Some r) is most sound good =
     }
 
 -- no candidates
-none_good : (config : Config) (sessions : List Owned) → AreGood config sessions 0 []
+pub none_good : (config : Config) (sessions : List Owned) → AreGood config sessions 0 []
 none_good config sessions = record {
   few = omega arith;
   sound = λ i d inside. absurd (omega (arith, inside));
@@ -101,7 +103,7 @@ none_good config sessions = record {
 }
 
 -- the route of a local network alone
-own_good : (config : Config) (sessions : List Owned) → IsSound (local_route config)
+pub own_good : (config : Config) (sessions : List Owned) → IsSound (local_route config)
     → AreGood config sessions 0 (candidate_of config (side_of config sessions 0) (local_route config) ∷ [])
 own_good config sessions own =
     let c : Candidate = candidate_of config (side_of config sessions 0) (local_route config) in
@@ -113,16 +115,3 @@ own_good config sessions own =
         (λ k d inside. absurd (omega (arith, inside)));
       sides = All-push (OfSide config sessions 0) [] c none.sides (0, omega arith, refl, refl);
     }
-
--- the candidates that the first n peers give
-pub found_good : (config : Config) (sessions : List Owned) (l : Bool) (sent : ℕ → Option Route) (n : ℕ)
-    → IsConfig config → IsSound (local_route config) → ((p : ℕ) → IfSome (sent p) IsSound) → n ≤ length config.peers
-    → AreGood config sessions n (found_in config sessions l sent n)
-found_good config sessions true sent zero is own sound most = own_good config sessions own
-found_good config sessions false sent zero is own sound most = none_good config sessions
-found_good config sessions l sent (suc n) is own sound most =
-    let e : suc n ≡ n + 1 = omega arith in
-    subst (λ (k : ℕ). AreGood config sessions k (found_in config sessions l sent k)) (sym e)
-    (subst (λ (cs : List Candidate). AreGood config sessions (n + 1) cs) (sym (found_more config sessions l sent n))
-      (one_more config sessions n (found_in config sessions l sent n) (sent (1 + n)) is (omega (arith, most))
-        (sound (1 + n)) (found_good config sessions l sent n is own sound (omega (arith, most)))))
