@@ -1,10 +1,13 @@
 -- One function of a core after another.
-use Rattle.std.proofs.Common.{◌≡◌, refl, sym, ◌∙◌, ap, ℕ, ◌+◌, List, [], ◌∷◌, ◌++◌, fold, length, arith}
+use Rattle.std.proofs.Common.{◌≡◌, refl, sym, ◌∙◌, ap, subst, ℕ, ◌+◌, List, [], ◌∷◌, ◌++◌, fold, length, arith}
 use Rattle.std.specs.List.{range_with_len}
+use Rattle.std.specs.Map.{keys_of}
 use Rattle.std.proofs.lemmas.List.Sums.{fold_push}
 use Rattle.spk_model.specs.declared.host.Setup.{Setup}
 use Rattle.spk_model.specs.Choosing.{Trace}
-use Rattle.spk_model.specs.Routing.{Routing, Routed}
+use Rattle.xb_values.specs.Prefixes.{Prefix}
+use Rattle.bgp_fsm.specs.Sessions.{Owned}
+use Rattle.spk_model.specs.Routing.{Routing, Routed, export, export_all}
 use Rattle.spk_routes.proofs.RangeLemmas.{range_with_len-more}
 use Rattle.host_listed.specs.declared.routing.Core.{Core}
 use Rattle.host_listed.specs.Meaning.{Does, IsReady, setup_of, routing_of, routed}
@@ -37,20 +40,44 @@ does_same f g a b same d = record {
   routing = λ trace. ap (λ (t : Routed). t.routing) (sym (same trace)) ∙ d.routing trace;
 }
 
--- a step for each number from one on: with one more
-pub does_more : (f : Setup → Routed → ℕ → Routed) (n p : ℕ) (a b c : Core) → p ≡ n + 1
-    → Does (λ setup t. fold (f setup) t (range_with_len 1 n)) a b → Does (λ setup t. f setup t p) b c
-    → Does (λ setup t. fold (f setup) t (range_with_len 1 (n + 1))) a c
-does_more f n p a b c is so_far d =
+-- after a step, another for each number from one on: with one more
+pub does_more : (g : Setup → Routed → Routed) (f : Setup → Routed → ℕ → Routed) (n p : ℕ) (a b c : Core) → p ≡ n + 1
+    → Does (λ setup t. fold (f setup) (g setup t) (range_with_len 1 n)) a b → Does (λ setup t. f setup t p) b c
+    → Does (λ setup t. fold (f setup) (g setup t) (range_with_len 1 (n + 1))) a c
+does_more g f n p a b c is so_far d =
     let next : 1 + n ≡ p = omega arith in
-    does_same (λ setup t. f setup (fold (f setup) t (range_with_len 1 n)) p)
-    (λ setup t. fold (f setup) t (range_with_len 1 (n + 1))) a c
-    (λ trace. sym (ap (λ l. fold (f (setup_of a)) (routed trace a) l) (range_with_len-more 1 n)
-      ∙ fold_push (f (setup_of a)) (routed trace a) (range_with_len 1 n) (1 + n)
-      ∙ ap (f (setup_of a) (fold (f (setup_of a)) (routed trace a) (range_with_len 1 n))) next))
-    (does_then (λ setup t. fold (f setup) t (range_with_len 1 n)) (λ setup t. f setup t p) a b c so_far d)
+    does_same (λ setup t. f setup (fold (f setup) (g setup t) (range_with_len 1 n)) p)
+    (λ setup t. fold (f setup) (g setup t) (range_with_len 1 (n + 1))) a c
+    (λ trace. sym (ap (λ l. fold (f (setup_of a)) (g (setup_of a) (routed trace a)) l) (range_with_len-more 1 n)
+      ∙ fold_push (f (setup_of a)) (g (setup_of a) (routed trace a)) (range_with_len 1 n) (1 + n)
+      ∙ ap (f (setup_of a) (fold (f (setup_of a)) (g (setup_of a) (routed trace a)) (range_with_len 1 n))) next))
+    (does_then (λ setup t. fold (f setup) (g setup t) (range_with_len 1 n)) (λ setup t. f setup t p) a b c so_far d)
+
+-- what is left of a list of steps, with the first of them
+pub does_first : {A : Type 0} (f : Setup → Routed → A → Routed) (x : A) (all rest : List A) (a b c : Core)
+    → all ≡ x ∷ rest → Does (λ setup t. f setup t x) a b → Does (λ setup t. fold (f setup) t rest) b c
+    → Does (λ setup t. fold (f setup) t all) a c
+does_first f x all rest a b c is one others =
+    subst (λ l. Does (λ setup t. fold (f setup) t l) a c) (sym is)
+    (does_then (λ setup t. f setup t x) (λ setup t. fold (f setup) t rest) a b c one others)
+
+-- nothing is left of a list of steps
+pub does_none : {A : Type 0} (f : Setup → Routed → A → Routed) (all : List A) (a : Core) → all ≡ [] → IsReady a
+    → Does (λ setup t. fold (f setup) t all) a a
+does_none f all a is ready =
+    subst (λ l. Does (λ setup t. fold (f setup) t l) a a) (sym is) (does_nothing a ready)
 
 -- a step keeps how many peers are configured
 pub does_peers : (f : Setup → Routed → Routed) (a b : Core) → Does f a b
     → length b.config.peers ≡ length a.config.peers
 does_peers f a b d = ap (λ (s : Setup). length (s.config).peers) d.setup
+
+-- each best route has its export
+pub does_all : (a b : Core) (sessions : List Owned) (p : ℕ) (items : List Prefix) → items ≡ keys_of a.best.entries
+    → Does (λ setup t. fold (λ u q. export setup sessions q u p) t items) a b
+    → Does (λ setup t. export_all setup sessions t p) a b
+unfolding export_all
+does_all a b sessions p items is d =
+    does_same (λ setup t. fold (λ u q. export setup sessions q u p) t items)
+    (λ setup t. export_all setup sessions t p) a b
+    (λ trace. ap (λ l. fold (λ u q. export (setup_of a) sessions q u p) (routed trace a) l) is) d

@@ -1,3 +1,5 @@
 mod FollowingLemmas
 mod TablesLemmas
 mod ExportLemmas
+mod DecideLemmas
+mod UpdateLemmas

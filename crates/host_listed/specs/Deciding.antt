@@ -14,23 +14,26 @@ use Rattle.spk_model.specs.Choosing.{Candidate}
 use Rattle.spk_model.specs.Sources.{is_network}
 use Rattle.spk_model.specs.Tournaments.{choose}
 use Rattle.spk_model.specs.Routing.{Chosen, Tables, no_tables, best_of}
-use Rattle.spk_routes.specs.Candidates.{found_in, shown, AreGood}
-use Rattle.spk_routes.specs.declared.contenders.Contenders.{Contenders}
+use Rattle.spk_routes.specs.Candidates.{found_in, AreGood}
 
 -- what a peer sent of a prefix
 abbrev pub sent_in : List Tables → Prefix → ℕ → Option Route
 sent_in tables prefix p = value_at prefix_cmp (slice_index_or tables (p - 1) no_tables).adjin prefix
 
--- the routes that a prefix has
-abbrev pub candidates_in : Config → List Owned → List Tables → Prefix → List Candidate
-candidates_in config sessions tables prefix =
-    found_in config sessions (is_network config prefix) (sent_in tables prefix) (length tables)
+-- the routes that a prefix has, of the first n peers
+abbrev pub candidates_to : Config → List Owned → List Tables → Prefix → ℕ → List Candidate
+candidates_to config sessions tables prefix n =
+    found_in config sessions (is_network config prefix) (sent_in tables prefix) n
 
--- they were found
-pub record AreFound (config : Config) (sessions : List Owned) (tables : List Tables) (prefix : Prefix)
-    (found : Contenders Route) : Type 0 where
-  pub all : shown (λ r. r) found ≡ candidates_in config sessions tables prefix
-  pub good : AreGood config sessions (length tables) (shown (λ r. r) found)
+-- and of all peers
+abbrev pub candidates_in : Config → List Owned → List Tables → Prefix → List Candidate
+candidates_in config sessions tables prefix = candidates_to config sessions tables prefix (length tables)
+
+-- those of the first n peers were found
+pub record AreFound (config : Config) (sessions : List Owned) (tables : List Tables) (prefix : Prefix) (n : ℕ)
+    (found : List Candidate) : Type 0 where
+  pub all : found ≡ candidates_to config sessions tables prefix n
+  pub good : AreGood config sessions n found
 
 -- the best of some candidates, if there are any
 abbrev pub winner_of : Manifest → Side → Engine → Prefix → List Candidate → Option Chosen

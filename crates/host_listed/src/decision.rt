@@ -1,6 +1,8 @@
 // The candidates of a prefix, and the best among them.
-ghost use Rattle.std.specs.Prelude.{◌≡◌, length, IfOk};
+ghost use Rattle.std.specs.Prelude.{◌≡◌, ◌≤◌, length, IfOk};
+ghost use Rattle.xbgp_config.specs.declared.limits.TheConstants.{MAX_PEERS};
 ghost use Rattle.spk_model.specs.Sources.{local_route};
+ghost use Rattle.spk_routes.specs.Candidates.{shown};
 ghost use Rattle.host_listed.specs.Deciding.{AreFound, IsWinner};
 
 use crate::best::Best;
@@ -26,7 +28,8 @@ fn gather<'a>(
     requires own { own.now ≡ record { source = 0; route = local_route config.now } }
     requires all { length sessions.now ≡ length config.now.peers }
     requires count { length peers.now ≡ length config.now.peers }
-    ensures { IfOk result (AreFound config.now sessions.now peers.now prefix) }
+    ensures { IfOk result (λ found.
+        AreFound config.now sessions.now peers.now prefix (length peers.now) (shown (λ r. r) found)) }
 {
     let local = local_of(config);
     let mut found = Contenders::make(alloc);
@@ -53,6 +56,7 @@ pub(crate) fn winner(
 ) -> Result<Option<Best>, AllocError>
     requires own { own.now ≡ record { source = 0; route = local_route config.now } }
     requires all { length sessions.now ≡ length config.now.peers }
+    requires few { length config.now.peers ≤ MAX_PEERS }
     requires count { length peers.now ≡ length config.now.peers }
     ensures { IfOk result (IsWinner config.now engine.old engine.new peers.now sessions.now prefix) }
 {

@@ -28,7 +28,8 @@ pub(crate) struct Core {
     pub(crate) best: BTreeMap<Prefix, Best>,
     // The peer with number 1 is at 0.
     pub(crate) peers: Vec<PeerTables>,
-    // The route that is edited while an UPDATE is taken.
+    // The route of the UPDATE that is taken, and its copy for one prefix.
+    pub(crate) received: Overlay,
     pub(crate) route: Overlay,
     pub(crate) exporter: Exporter,
 }

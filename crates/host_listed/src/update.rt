@@ -71,7 +71,7 @@ impl Core {
         Ok(())
     }
 
-    // One announced prefix: the route that is kept, if inbound accepts its copy, enters the table of the peer.
+    // One announced prefix: the route, if inbound accepts its copy, enters the table of the peer.
     fn announce_one(
         &mut self,
         sessions: &[Session],
@@ -85,13 +85,13 @@ impl Core {
         requires least { 1 ≤ peer }
         requires most { peer ≤ length self.old.config.peers }
         requires side { side.now ≡ side_in self.old.config sessions.now peer }
-        requires sound { IsSound self.old.route.kept }
+        requires sound { IsSound self.old.received.route }
         ensures does { OnOk result (Does
-            (λ setup t. announce_one setup sessions.now now self.old.route.kept peer t prefix) self.old self.new) }
-        ensures kept { OnOk result (self.new.route.kept ≡ self.old.route.kept) }
+            (λ setup t. announce_one setup sessions.now now self.old.received.route peer t prefix) self.old self.new) }
+        ensures kept { OnOk result (self.new.received ≡ self.old.received) }
     {
         let i = peer as usize - 1;
-        self.route.back();
+        self.route.load(&self.received);
         let outcome = self
             .engine
             .inbound(u64::from(now), side, prefix, &mut self.route);
@@ -117,13 +117,12 @@ impl Core {
         requires least { 1 ≤ peer }
         requires most { peer ≤ length self.old.config.peers }
         requires side { side.now ≡ side_in self.old.config sessions.now peer }
-        requires sound { IsSound self.old.route.route }
+        requires sound { IsSound self.old.received.route }
         requires whole { are_prefixes nlri.now ≡ true }
         ensures { OnOk result (Does
-            (λ setup t. fold (announce_one setup sessions.now now self.old.route.route peer) t (prefixes nlri.now))
+            (λ setup t. fold (announce_one setup sessions.now now self.old.received.route peer) t (prefixes nlri.now))
             self.old self.new) }
     {
-        self.route.keep();
         let mut rest = EachPrefix::new(nlri);
         'prefixes: while let Some(prefix) = rest.next() {
             self.announce_one(sessions, now, side, peer, prefix)?;
@@ -147,15 +146,15 @@ impl Core {
         requires most { peer ≤ length self.old.config.peers }
         requires side { side.now ≡ side_in self.old.config sessions.now peer }
         requires short { length body.now ≤ MAX_BODY }
-        requires sound { IsSound self.old.route.route }
+        requires sound { IsSound self.old.received.route }
         requires whole { are_prefixes nlri.now ≡ true }
         ensures { OnOk result (Does
-            (λ setup t. receive_route setup sessions.now now t peer body.now (prefixes nlri.now) self.old.route.route)
+            (λ setup t. receive_route setup sessions.now now t peer body.now (prefixes nlri.now) self.old.received.route)
             self.old self.new) }
     {
         let outcome = self
             .engine
-            .receive(u64::from(now), side, &mut self.route, body);
+            .receive(u64::from(now), side, &mut self.received, body);
         if accepts(&outcome, true) {
             return self.announce_each(sessions, now, side, peer, nlri);
         }
@@ -186,7 +185,7 @@ impl Core {
     {
         let side = side_of(&self.config, sessions, peer);
         let wide = sessions[peer as usize - 1].wide();
-        if read_route(&mut self.route, section, &side, wide) {
+        if read_route(&mut self.received, section, &side, wide) {
             return self.receive(sessions, now, &side, peer, body, nlri);
         }
         self.drop_all(sessions, peer, nlri);

@@ -53,6 +53,15 @@ address_peer : (config : Config) (sessions : List Owned) (p : ℕ)
     → address_of config sessions (suc p) ≡ (entry_of config (suc p)).address
 address_peer config sessions p = rw (eqb-suc-zero p, address_of, side_of) refl
 
+number_suc : (config : Config) (sessions : List Owned) (p : ℕ) → (side_of config sessions (suc p)).number ≡ suc p
+number_suc config sessions p = rw (eqb-suc-zero p, side_of) refl
+
+-- a peer's number as a party
+number_peer : (config : Config) (sessions : List Owned) (n : ℕ) → (side_of config sessions (1 + n)).number ≡ 1 + n
+number_peer config sessions n =
+    let e : suc n ≡ 1 + n = omega arith in
+    subst (λ (p : ℕ). (side_of config sessions p).number ≡ p) e (number_suc config sessions n)
+
 -- parties with different numbers have different addresses
 addresses_differ : (config : Config) (sessions : List Owned) (q p : ℕ) → IsConfig config → q < p → p ≤ length config.peers
     → address_of config sessions q ≢ address_of config sessions p
@@ -77,6 +86,7 @@ one_more config sessions n cs None is most sound good = record {
   few = omega (arith, good.few);
   sound = good.sound;
   apart = good.apart;
+  numbers = λ i d inside. let b = good.numbers i d inside in omega (arith, b);
   sides = λ i d inside. let w = good.sides i d inside in (w.0, omega (arith, w.1), w.2, w.3);
 }
 one_more config sessions n cs (Some r) is most sound good =
@@ -88,6 +98,9 @@ one_more config sessions n cs (Some r) is most sound good =
         (λ k d inside same. let w = good.sides k d inside in
           addresses_differ config sessions w.0 (1 + n) is (omega (arith, w.1)) most
           (sym (w.3 ∙ ap (λ (s : Side). s.address) w.2) ∙ same));
+      numbers = All-push (λ x. (x.side).number ≤ n + 1) cs c
+        (λ i d inside. let b = good.numbers i d inside in omega (arith, b))
+        (omega (arith, number_peer config sessions n));
       sides = All-push (OfSide config sessions (n + 1)) cs c
         (λ i d inside. let w = good.sides i d inside in (w.0, omega (arith, w.1), w.2, w.3))
         (1 + n, omega arith, refl, refl);
@@ -99,13 +112,14 @@ none_good config sessions = record {
   few = omega arith;
   sound = λ i d inside. absurd (omega (arith, inside));
   apart = λ i j d below inside. absurd (omega (arith, inside));
+  numbers = λ i d inside. absurd (omega (arith, inside));
   sides = λ i d inside. absurd (omega (arith, inside));
 }
 
 -- the route of a local network alone
-pub own_good : (config : Config) (sessions : List Owned) → IsSound (local_route config)
+pub own_good : (config : Config) (sessions : List Owned) → IsConfig config → IsSound (local_route config)
     → AreGood config sessions 0 (candidate_of config (side_of config sessions 0) (local_route config) ∷ [])
-own_good config sessions own =
+own_good config sessions is own =
     let c : Candidate = candidate_of config (side_of config sessions 0) (local_route config) in
     let none : AreGood config sessions 0 [] = none_good config sessions in
     record {
@@ -113,5 +127,6 @@ own_good config sessions own =
       sound = All-push (λ x. IsSound x.route) [] c none.sound own;
       apart = all_pairs_push (λ a b. (a.rank).address ≢ (b.rank).address) [] c none.apart
         (λ k d inside. absurd (omega (arith, inside)));
+      numbers = All-push (λ x. (x.side).number ≤ 0) [] c none.numbers (omega (arith, is.speaker.0));
       sides = All-push (OfSide config sessions 0) [] c none.sides (0, omega arith, refl, refl);
     }

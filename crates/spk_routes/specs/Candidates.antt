@@ -34,6 +34,7 @@ pub record AreGood (config : Config) (sessions : List Owned) (n : ℕ) (cs : Lis
   pub few : length cs ≤ n + 1
   pub sound : All (λ c. IsSound c.route) cs
   pub apart : AllPairs (λ a b. (a.rank).address ≢ (b.rank).address) cs
+  pub numbers : All (λ c. (c.side).number ≤ n) cs
   pub sides : All (λ c. (q : ℕ) × (q ≤ n) × (c.side ≡ side_of config sessions q)
       × ((c.rank).address ≡ (c.side).address)) cs
 

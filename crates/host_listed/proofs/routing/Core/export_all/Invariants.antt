@@ -8,10 +8,9 @@ use Rattle.host_listed.proofs.routing.Core.export_all.Given as goal
 abbrev pub invariant-prefixes : goal.invariant-prefixes
 invariant-prefixes l = record {
   ready : IsReady l.self;
-  all : length l.sessions ≡ length l.self.config.peers;
-  same : length l.self.config.peers ≡ length l.fn.self.config.peers;
+  peers : length l.self.config.peers ≡ length l.fn.self.config.peers;
   comes : (end : Core)
-      → Does (λ setup t. fold (λ u q. export setup l.sessions q u l.peer) t (drop l.prefix-index l.prefixes.items))
+      → Does (λ setup t. fold (λ u q. export setup l.sessions q u l.peer) t (drop l.prefix-index l.prefix-items))
         l.self end
-      → Does (λ setup t. fold (λ u q. export setup l.sessions q u l.peer) t l.prefixes.items) l.fn.self end;
+      → Does (λ setup t. fold (λ u q. export setup l.sessions q u l.peer) t l.prefix-items) l.fn.self end;
 }

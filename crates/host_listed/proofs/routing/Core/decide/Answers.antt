@@ -1,0 +1,27 @@
+use Rattle.std.proofs.Common.{sym, subst, List, Option, Some, None}
+use Rattle.spk_model.specs.Routing.{Chosen, Tables}
+use Rattle.host_listed.specs.Deciding.{IsWinner}
+use Rattle.host_listed.proofs.DecideLemmas.{decides}
+use Rattle.host_listed.proofs.routing.Core.decide.Goals as goal
+
+pub returns-in-None : goal.returns-in-None
+returns-in-None c =
+    let a = c.args.self.now in
+    decides a c.winner.new.engine c.remove.new.self c.args.sessions.now c.args.prefix None c.requires.ready
+    c.requires.all
+    (subst (λ (o : Option Chosen). IsWinner a.config a.engine c.winner.new.engine a.peers.items c.args.sessions.now
+        c.args.prefix o) c.in-None.is
+      (subst (λ (ts : List Tables). IsWinner a.config a.engine c.winner.new.engine ts c.args.sessions.now
+        c.args.prefix c.in_ok-winner.field-0) c.deref.ensures.value c.in_ok-winner.ensures))
+    c.remove.ensures.entries
+
+pub returns-in_ok-insert-in-Some : goal.returns-in_ok-insert-in-Some
+returns-in_ok-insert-in-Some c =
+    let a = c.args.self.now in
+    decides a c.winner.new.engine c.insert.new.self c.args.sessions.now c.args.prefix (Some c.in-Some.best)
+    c.requires.ready c.requires.all
+    (subst (λ (o : Option Chosen). IsWinner a.config a.engine c.winner.new.engine a.peers.items c.args.sessions.now
+        c.args.prefix o) c.in-Some.is
+      (subst (λ (ts : List Tables). IsWinner a.config a.engine c.winner.new.engine ts c.args.sessions.now
+        c.args.prefix c.in_ok-winner.field-0) c.deref.ensures.value c.in_ok-winner.ensures))
+    c.in_ok-insert-in-Some.ensures.entries
