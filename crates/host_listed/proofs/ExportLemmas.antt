@@ -23,7 +23,7 @@ use Rattle.host_listed.specs.declared.routing.Core.{Core}
 use Rattle.host_listed.specs.Meaning.{Does, IsReady, setup_of, routing_of, routed}
 
 -- a session by its index is that of the peer's number
-session_at : (sessions : List Owned) (p : ℕ) (s : Owned) → 1 ≤ p → p ≤ length sessions
+pub session_at : (sessions : List Owned) (p : ℕ) (s : Owned) → 1 ≤ p → p ≤ length sessions
     → s ≡ slice_index_or sessions (p - 1) s → s ≡ session_of sessions p
 session_at sessions p s least most is =
     let inside : p - 1 < length sessions = omega arith in

@@ -3,3 +3,5 @@ mod TablesLemmas
 mod ExportLemmas
 mod DecideLemmas
 mod UpdateLemmas
+mod SoundLemmas
+mod JudgeLemmas

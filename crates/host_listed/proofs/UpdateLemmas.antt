@@ -3,7 +3,10 @@ use Rattle.std.proofs.Common.{◌≡◌, ◌≤◌, ◌<◌, ◌-◌, refl, sym,
 use Rattle.std.specs.Prelude.{if◌then◌else◌, not, nat_le, slice_index_or}
 use Rattle.std.specs.List.{slice_set, list_any}
 use Rattle.std.specs.declared.alloc.Global.{Global}
+use Rattle.std.proofs.Math.Dec.{eqb-suc-zero}
 use Rattle.std.proofs.Math.ListN.{length-set}
+use Rattle.std.specs.Prelude.{◌==◌}
+use Rattle.xb_words.specs.Cut.{cut}
 use Rattle.xb_words.specs.Table.{with_value, without, has_key, set_of}
 use Rattle.xb_wire.specs.Messages.{Update, update_parts}
 use Rattle.xb_wire.specs.declared.numbers.TheConstants.{MAX_MESSAGE}
@@ -101,6 +104,18 @@ others_same withdrawn nlri set is =
     filter-same (λ w. not (has_key prefix_cmp set w)) (λ w. not (list_any (same_prefix w) (prefixes nlri)))
     (prefixes withdrawn)
     (λ q. ap not (ap (λ (s : List Prefix). has_key prefix_cmp s q) is ∙ has_key-set_of (prefixes nlri) q))
+
+-- no octets write no prefix
+pub no_prefixes : (s : List ℕ) → length s ≡ 0 → prefixes s ≡ []
+unfolding cut
+no_prefixes [] none = refl
+no_prefixes (b ∷ s) none = absurd (omega (arith, none))
+
+-- octets that write a prefix are there
+pub are_there : (s : List ℕ) (first : Prefix) (others : List Prefix) → prefixes s ≡ first ∷ others
+    → not (length s == 0) ≡ true
+are_there [] first others some = absurd (cc (some, no_prefixes [] refl))
+are_there (b ∷ s) first others some = rw (eqb-suc-zero (length s)) refl
 
 -- nothing is withdrawn
 pub none_same : (withdrawn nlri : List ℕ) (set : List Prefix) → prefixes withdrawn ≡ []
@@ -300,7 +315,7 @@ announces_not a received b sessions now p body section u ps section_is fits d = 
 -- ---- the whole
 
 -- the routes of an UPDATE that announces prefixes
-some_routes : (a b c : Core) (sessions : List Owned) (now p : ℕ) (body : List ℕ) (u : Update) (first : Prefix)
+pub some_routes : (a b c : Core) (sessions : List Owned) (now p : ℕ) (body : List ℕ) (u : Update) (first : Prefix)
     (others ps : List Prefix) → ps ≡ first ∷ others
     → Does (λ setup t. announce setup sessions now t p body u ps) a b → Does (λ setup t. withdraw setup sessions t p u) b c
     → Does (λ setup t. routes_of setup sessions now t p body u ps) a c
@@ -311,14 +326,14 @@ some_routes a b c sessions now p body u first others ps is one two =
     (subst (λ (l : List Prefix). Does (λ setup t. withdraw setup sessions (announce setup sessions now t p body u l) p u) a c) is both)
 
 -- and of one that announces none
-none_routes : (a c : Core) (sessions : List Owned) (now p : ℕ) (body : List ℕ) (u : Update) (ps : List Prefix) → ps ≡ []
+pub none_routes : (a c : Core) (sessions : List Owned) (now p : ℕ) (body : List ℕ) (u : Update) (ps : List Prefix) → ps ≡ []
     → Does (λ setup t. withdraw setup sessions t p u) a c
     → Does (λ setup t. routes_of setup sessions now t p body u ps) a c
 none_routes a c sessions now p body u ps is d =
     subst (λ (l : List Prefix). Does (λ setup t. routes_of setup sessions now t p body u l) a c) (sym is) d
 
 -- and then its prefixes are settled
-then_settled : (a c d : Core) (sessions : List Owned) (now p : ℕ) (body : List ℕ) (u : Update) (set : List Prefix)
+pub then_settled : (a c d : Core) (sessions : List Owned) (now p : ℕ) (body : List ℕ) (u : Update) (set : List Prefix)
     → u ≡ update_parts body → set ≡ set_of prefix_cmp (prefixes u.withdrawn ++ prefixes u.nlri)
     → Does (λ setup t. routes_of setup sessions now t p body u (prefixes u.nlri)) a c
     → Does (λ setup t. fold (settle setup sessions) t set) c d
@@ -334,23 +349,3 @@ then_settled a c d sessions now p body u set u_is set_is one two =
           (routes_of setup sessions now t p body u (prefixes u.nlri)) l) a d) set_is both in
     subst (λ (x : Update). Does (λ setup t. settle_all setup sessions (routes_of setup sessions now t p body x (prefixes x.nlri))
       (prefixes x.withdrawn ++ prefixes x.nlri)) a d) u_is named
-
-pub updates_some : (a b c d : Core) (sessions : List Owned) (now p : ℕ) (body : List ℕ) (u : Update) (set : List Prefix)
-    (first : Prefix) (others : List Prefix) → prefixes u.nlri ≡ first ∷ others
-    → u ≡ update_parts body → set ≡ set_of prefix_cmp (prefixes u.withdrawn ++ prefixes u.nlri)
-    → Does (λ setup t. announce setup sessions now t p body u (prefixes u.nlri)) a b
-    → Does (λ setup t. withdraw setup sessions t p u) b c
-    → Does (λ setup t. fold (settle setup sessions) t set) c d
-    → Does (λ setup t. update setup sessions now t p body) a d
-updates_some a b c d sessions now p body u set first others some u_is set_is one two three =
-    then_settled a c d sessions now p body u set u_is set_is
-    (some_routes a b c sessions now p body u first others (prefixes u.nlri) some one two) three
-
-pub updates_none : (a c d : Core) (sessions : List Owned) (now p : ℕ) (body : List ℕ) (u : Update) (set : List Prefix)
-    → prefixes u.nlri ≡ [] → u ≡ update_parts body → set ≡ set_of prefix_cmp (prefixes u.withdrawn ++ prefixes u.nlri)
-    → Does (λ setup t. withdraw setup sessions t p u) a c
-    → Does (λ setup t. fold (settle setup sessions) t set) c d
-    → Does (λ setup t. update setup sessions now t p body) a d
-updates_none a c d sessions now p body u set none u_is set_is two three =
-    then_settled a c d sessions now p body u set u_is set_is
-    (none_routes a c sessions now p body u (prefixes u.nlri) none two) three

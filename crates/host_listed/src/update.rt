@@ -1,5 +1,5 @@
 // What an UPDATE without fault does to the routes.
-ghost use Rattle.std.specs.Prelude.{◌≡◌, ◌≤◌, ◌++◌, length, fold, true, Some, None, IfOk, OnOk};
+ghost use Rattle.std.specs.Prelude.{◌≡◌, ◌≤◌, ◌++◌, ◌==◌, not, length, fold, true, Some, None, IfOk, OnOk};
 ghost use Rattle.xb_words.specs.Table.{set_of};
 ghost use Rattle.xb_wire.specs.Messages.{Update};
 ghost use Rattle.xb_wire.specs.declared.numbers.TheConstants.{MAX_BODY};
@@ -7,7 +7,7 @@ ghost use Rattle.xb_values.specs.Prefixes.{are_prefixes, prefix_cmp, prefixes};
 ghost use Rattle.bgp_attr.specs.Paths.{width_of};
 ghost use Rattle.bgp_check.specs.Judgement.{judge, judge_section};
 ghost use Rattle.spk_model.specs.Sources.{is_wide, side_of as side_in};
-ghost use Rattle.spk_model.specs.Routing.{announce, announce_one, drop_all, receive_route, update, withdraw};
+ghost use Rattle.spk_model.specs.Routing.{announce, announce_one, drop_all, receive_route, routes_of, update, withdraw};
 ghost use Rattle.spk_routes.specs.Sound.{IsSound};
 ghost use Rattle.host_listed.specs.Meaning.{Does, IsReady};
 
@@ -192,6 +192,38 @@ impl Core {
         Ok(())
     }
 
+    // The routes of an UPDATE.
+    fn take_routes(
+        &mut self,
+        alloc: Global,
+        sessions: &[Session],
+        now: u32,
+        peer: u32,
+        body: &[u8],
+        parts: &UpdateView<'_>,
+    ) -> Result<(), AllocError>
+        requires ready { IsReady self.old }
+        requires all { length sessions.now ≡ length self.old.config.peers }
+        requires least { 1 ≤ peer }
+        requires most { peer ≤ length self.old.config.peers }
+        requires short { length body.now ≤ MAX_BODY }
+        requires section { length parts.now.section ≤ MAX_BODY }
+        requires good { judge_section (width_of (is_wide sessions.now peer)) parts.now.section
+            (not (length parts.now.nlri == 0)) ≡ None }
+        requires whole { are_prefixes parts.now.withdrawn ≡ true }
+        requires announced { are_prefixes parts.now.nlri ≡ true }
+        ensures { OnOk result (Does
+            (λ setup t. routes_of setup sessions.now now t peer body.now parts.now (prefixes parts.now.nlri))
+            self.old self.new) }
+    {
+        let mut announced = EachPrefix::new(parts.nlri());
+        let Some(_) = announced.next() else {
+            return self.withdraw(alloc, sessions, peer, parts.withdrawn(), parts.nlri());
+        };
+        self.announce(sessions, now, peer, body, parts.section(), parts.nlri())?;
+        self.withdraw(alloc, sessions, peer, parts.withdrawn(), parts.nlri())
+    }
+
     /// Takes the body of an UPDATE without fault, which came from a peer at the time `now`, in seconds.
     pub(crate) fn update(
         &mut self,
@@ -213,10 +245,7 @@ impl Core {
             return Ok(());
         };
         let named = named_in(alloc, parts.withdrawn(), parts.nlri())?;
-        if EachPrefix::new(parts.nlri()).next().is_some() {
-            self.announce(sessions, now, peer, body, parts.section(), parts.nlri())?;
-        }
-        self.withdraw(alloc, sessions, peer, parts.withdrawn(), parts.nlri())?;
+        self.take_routes(alloc, sessions, now, peer, body, &parts)?;
         self.settle_set(alloc, sessions, named)
     }
 }
