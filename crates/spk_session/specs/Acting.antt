@@ -1,5 +1,5 @@
 -- What the acts of a session leave of the flags and of the sessions (this project's own).
-use Rattle.std.specs.Prelude.{◌≡◌, ℕ, ◌-◌, Bool, true, false, List, [], ◌∷◌, ◌++◌, ◌||◌, if◌then◌else◌}
+use Rattle.std.specs.Prelude.{◌≡◌, ℕ, ◌-◌, Bool, true, false, List, [], ◌∷◌, ◌++◌, ◌||◌}
 use Rattle.std.specs.List.{slice_index_or, slice_set}
 use Rattle.std.specs.Vec.{with_item}
 use Rattle.bgp_fsm.specs.declared.Act.{Act}
@@ -48,7 +48,7 @@ abbrev pub closes : List Act → Bool
 closes [] = false
 closes (a ∷ acts) = is_close a || closes acts
 
--- a flag is up after some acts
+-- a flag is set after some acts
 abbrev pub flags_after : ℕ → Bool → List Bool → List Bool
 flags_after p true flags = slice_set flags (p - 1) true
 flags_after p false flags = flags
@@ -63,12 +63,13 @@ reaction_of l p what =
 abbrev pub reacted : Links → ℕ → Stimulus → List Owned
 reacted l p what =
     slice_set (l.sessions).items (p - 1)
-      (record (session_of (l.sessions).items p) { session = (reaction_of l p what).session })
+    (record (session_of (l.sessions).items p) { session = (reaction_of l p what).session })
 
--- after a message either the flag of the peer is up, or no flag changed and the session is live
+-- after a message either the flag of the peer is set, or no flag changed and the session is live
 abbrev pub LeftBy : Bool → ℕ → Links → Links → Type 0
 LeftBy true p old new = (new.dropped).items ≡ slice_set (old.dropped).items (p - 1) true
 LeftBy false p old new = ((new.dropped).items ≡ (old.dropped).items) × (is_live (state_in new p) ≡ true)
 
+-- the same by the flag of the peer
 abbrev pub IsLeft : ℕ → Links → Links → Type 0
 IsLeft p old new = LeftBy (flag_of new p) p old new

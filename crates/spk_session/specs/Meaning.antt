@@ -18,6 +18,7 @@ pub record Core : Type 0 where
   pub routing : Routing
   pub links : Links
 
+-- the same by its parts
 abbrev pub core_of : Setup → Routing → Links → Core
 core_of setup routing links = record { setup = setup; routing = routing; links = links }
 

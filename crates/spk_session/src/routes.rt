@@ -75,7 +75,12 @@ pub trait Routes: Sized + Drop {
             (routing self.old) (routing self.new)) };
 
     /// The session of a peer came up: every best route is exported to it.
-    fn export_all(&mut self, alloc: Global, sessions: &[Session], peer: u32) -> Result<(), AllocError>
+    fn export_all(
+        &mut self,
+        alloc: Global,
+        sessions: &[Session],
+        peer: u32,
+    ) -> Result<(), AllocError>
         requires all { length sessions.now ≡ length ((built_from self.old).config).peers }
         requires peer { IsPeer (built_from self.old) peer }
         ensures setup { OnOk result (built_from self.new ≡ built_from self.old) }

@@ -7,4 +7,5 @@ pub returns : goal.returns
 returns c =
     let l = c.args.self.now in
     let i = c.args.peer - 1 in
-    ap (λ (x : List ℕ). record l { rests = with_item l.rests i x; dropped = with_item l.dropped i true }) c.clear.ensures
+    ap (λ (x : List ℕ). record l { rests = with_item l.rests i x; dropped = with_item l.dropped i true })
+    c.clear.ensures

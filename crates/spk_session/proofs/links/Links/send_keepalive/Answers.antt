@@ -8,5 +8,6 @@ pub returns : goal.returns
 returns c =
     let l = c.args.self.now in
     on_ok_weaker c.send_written.result
-    (λ e. e ∙ ap (λ (m : Buffer). sent_to c.args.peer m.octets (record l { message = m })) c.write_keepalive.ensures.written)
+    (λ e. e ∙ ap (λ (m : Buffer). sent_to c.args.peer m.octets (record l { message = m }))
+    c.write_keepalive.ensures.written)
     c.send_written.ensures

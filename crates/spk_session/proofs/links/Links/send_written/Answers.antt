@@ -11,7 +11,7 @@ returns c =
     let p = c.args.peer in
     on_ok_weaker c.put-2.result
     (λ e. sent_after_rest l p c.index_mut-rest.result.now c.clear.new.self (l.message).octets c.put.new.outputs
-        c.put-2.new.outputs c.requires.even c.requires.peer c.index_mut-rest.ensures.value c.clear.ensures
-        (c.in_ok-put.ensures ∙ ap (λ (x : List ℕ). l.outputs ++ put p x) c.as_slice.ensures)
-        (e ∙ ap (λ (x : List ℕ). c.put.new.outputs ++ put p x) c.as_slice-2.ensures.value))
+    c.put-2.new.outputs c.requires.even c.requires.peer c.index_mut-rest.ensures.value c.clear.ensures
+    (c.in_ok-put.ensures ∙ ap (λ (x : List ℕ). l.outputs ++ put p x) c.as_slice.ensures)
+    (e ∙ ap (λ (x : List ℕ). c.put.new.outputs ++ put p x) c.as_slice-2.ensures.value))
     c.put-2.ensures
