@@ -5,3 +5,4 @@ mod DecideLemmas
 mod UpdateLemmas
 mod SoundLemmas
 mod JudgeLemmas
+mod WalkLemmas

@@ -3,6 +3,8 @@
 
 mod best;
 mod decision;
+mod rescan;
 mod routing;
+mod start;
 mod tables;
 mod update;

@@ -1,7 +1,8 @@
 // What is kept of a peer.
 ghost use Rattle.std.specs.Prelude.{◌≡◌, ◌≤◌, [], length, filter, not, true, IfOk, IfSome, OnOk, OnErr};
+ghost use Rattle.std.specs.Map.{keys_of};
 ghost use Rattle.std.specs.Option.{option_map};
-ghost use Rattle.xb_words.specs.Table.{has_key, value_at, with_value, without};
+ghost use Rattle.xb_words.specs.Table.{has_key, value_at, with_keys, with_value, without};
 ghost use Rattle.xb_values.specs.Prefixes.{are_prefixes, prefix_cmp, prefixes};
 ghost use Rattle.xb_wire.specs.declared.numbers.TheConstants.{MAX_SECTION};
 ghost use Rattle.spk_model.specs.Routing.{without_all};
@@ -119,5 +120,29 @@ impl PeerTables {
         ensures { self.new ≡ record self.old { adv = without prefix_cmp self.old.adv prefix } }
     {
         self.out.unset(prefix);
+    }
+
+    /// Adds the prefixes that the peer sent to a set. The error is want of memory; then some may have been added.
+    pub(crate) fn add_sent(&self, set: &mut PrefixSet) -> Result<(), AllocError>
+        ensures { OnOk result (set.new ≡ with_keys prefix_cmp set.old (keys_of self.now.adjin)) }
+    {
+        let mut after = None;
+        'prefixes: while let Some(prefix) = self.sent.after(after) {
+            set.add(prefix)?;
+            after = Some(prefix);
+        }
+        Ok(())
+    }
+
+    /// The same of the prefixes that the peer is advertised.
+    pub(crate) fn add_advertised(&self, set: &mut PrefixSet) -> Result<(), AllocError>
+        ensures { OnOk result (set.new ≡ with_keys prefix_cmp set.old (keys_of self.now.adv)) }
+    {
+        let mut after = None;
+        'prefixes: while let Some((prefix, _)) = self.out.adv_after(after) {
+            set.add(prefix)?;
+            after = Some(prefix);
+        }
+        Ok(())
     }
 }

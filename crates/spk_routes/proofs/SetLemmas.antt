@@ -68,7 +68,8 @@ module _ {K : Type 0} (c : K → K → Ordering) (o : IsTotalOrder c) where
       ∙ or_swap (list_any (is_at (c q)) ks) (is_at (c q) k) (has_key c set q)
       ∙ sym (or_assoc (is_at (c q) k) (list_any (is_at (c q)) ks) (has_key c set q))
 
-prefix_total : IsTotalOrder prefix_cmp
+-- the order of prefixes is total
+pub prefix_total : IsTotalOrder prefix_cmp
 prefix_total =
     then_total (on_total (λ (p : Prefix). p.addr) nat_cmp_total) (on_total (λ (p : Prefix). p.len) nat_cmp_total)
 
