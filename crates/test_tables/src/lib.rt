@@ -1,5 +1,5 @@
-//! Tests of what the speaker is to be made of: the table of a peer gives back the route that was put, and the lines of
-//! a report have their worked texts.
+//! Tests of what the speaker is to be made of: the table of a peer gives back the route that was put, what a peer is
+//! told has the worked messages, and the lines of a report have their worked texts.
 #![tactic(auto)]
 
 ghost use Rattle.std.specs.Prelude.{◌≡◌, ◌≤◌, true, false, MatchOption};

@@ -1,11 +1,14 @@
 use crate::section_at;
 use bgp_attr::MAX_CANONICAL;
 use bpf_machine::Cause;
+use out_sorted::SortedOut;
 use rib_table::PeerTable;
+use std::alloc::Global;
 use std::test::Fail;
 use table_print::{adv_line, drained_line, fault_line, map_line, output_line, route_line};
 use xb_domain::{Output, Point};
 use xb_values::{Buf, Prefix};
+use xb_wire::numbers::{MARKER, MAX_MESSAGE, MAX_SECTION};
 use xbgp_view::SectionView;
 
 // A MED of 20 and an ORIGIN, as they came and in canonical order.
@@ -26,6 +29,97 @@ fn a_route_is_kept_and_removed(rt: HostRuntime) -> Result<(), Fail> {
     assert_eq!(rt; table.after(Some(prefix)), None);
     assert!(rt; table.remove(prefix));
     assert!(rt; !table.remove(prefix));
+    Ok(())
+}
+
+// A prefix, as its address and its length, and the section with which it is then advertised, if it is.
+type Change = (u32, u8, Option<&'static [u8]>);
+
+// ORIGIN alone: IGP and EGP.
+const IGP: &[u8] = &[0x40, 1, 1, 0];
+
+const EGP: &[u8] = &[0x40, 1, 1, 1];
+
+// ORIGIN IGP, an AS_PATH of 65000 alone, NEXT_HOP 192.0.2.254
+const WHOLE: &[u8] = &[
+    0x40, 1, 1, 0, 0x40, 2, 4, 2, 1, 0xfd, 0xe8, 0x40, 3, 4, 192, 0, 2, 254,
+];
+
+// Changes, one after another, and the messages that then follow, without their marker.
+const TOLD: [(&[Change], &[&[u8]]); 4] = [
+    (
+        &[(0xc633_6400, 24, Some(WHOLE))],
+        &[&[
+            0, 0x2d, 2, 0, 0, 0, 18, 0x40, 1, 1, 0, 0x40, 2, 4, 2, 1, 0xfd, 0xe8, 0x40, 3, 4, 192,
+            0, 2, 254, 24, 198, 51, 100,
+        ]],
+    ),
+    (
+        &[
+            (0x0a03_0000, 16, Some(IGP)),
+            (0x0a02_0000, 16, Some(EGP)),
+            (0x0a01_0000, 16, Some(IGP)),
+            (0x0a00_0000, 8, Some(IGP)),
+        ],
+        &[
+            &[0, 32, 2, 0, 0, 0, 4, 0x40, 1, 1, 0, 8, 10, 16, 10, 1],
+            &[0, 30, 2, 0, 0, 0, 4, 0x40, 1, 1, 1, 16, 10, 2],
+            &[0, 30, 2, 0, 0, 0, 4, 0x40, 1, 1, 0, 16, 10, 3],
+        ],
+    ),
+    (
+        &[
+            (0x0a02_0000, 16, Some(IGP)),
+            (0x0a03_0000, 16, Some(EGP)),
+            (0x0a03_0000, 16, Some(IGP)),
+            (0x0a01_0000, 16, None),
+        ],
+        &[
+            &[0, 26, 2, 0, 3, 16, 10, 1, 0, 0],
+            &[0, 30, 2, 0, 0, 0, 4, 0x40, 1, 1, 0, 16, 10, 2],
+        ],
+    ),
+    (
+        &[(0x0a04_0000, 16, Some(IGP)), (0x0a04_0000, 16, None)],
+        &[],
+    ),
+];
+
+fn is_changed(table: &mut SortedOut, change: Change) -> bool {
+    let (addr, len, section) = change;
+    let Some(prefix) = Prefix::new(addr, len) else {
+        return false;
+    };
+    let Some(section) = section else {
+        table.unset(prefix);
+        return true;
+    };
+    section.len() <= MAX_SECTION && table.set(prefix, section).is_ok()
+}
+
+// Whether the next message, after its marker, is the one that is wanted, or there is none if it is empty.
+fn is_next(alloc: Global, table: &mut SortedOut, wanted: &[u8]) -> bool {
+    let Ok(mut out) = Buf::make(alloc, MAX_MESSAGE) else {
+        return false;
+    };
+    if !table.next_message(&mut out) {
+        return wanted.is_empty() && table.is_drained();
+    }
+    out.len() == MARKER + wanted.len() && out.as_slice().ends_with(wanted)
+}
+
+#[test]
+fn a_peer_is_told_of_changes(rt: HostRuntime) -> Result<(), Fail> {
+    let mut table = SortedOut::make(rt.alloc())?;
+    for (changes, messages) in TOLD {
+        for change in changes {
+            assert!(rt; is_changed(&mut table, *change));
+        }
+        for message in messages {
+            assert!(rt; is_next(rt.alloc(), &mut table, message));
+        }
+        assert!(rt; is_next(rt.alloc(), &mut table, &[]));
+    }
     Ok(())
 }
 

@@ -1,0 +1,4 @@
+pub mod Told
+pub mod Spans
+pub mod Slots
+pub mod Sending
