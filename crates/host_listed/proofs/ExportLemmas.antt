@@ -74,6 +74,17 @@ adv_routing t p prefix (Some section) = refl
 abbrev pub exported_core : Core → Kept → Vec Tables Global → List ℕ → Core
 exported_core a e ts x = record a { engine = e; peers = ts; exporter = x }
 
+-- such a core may be used again
+pub ready_exported : (a : Core) (e : Kept) (ts : Vec Tables Global) (x : List ℕ) (p : ℕ) (t : Tables) → IsReady a
+    → e.local ≡ a.engine.local → ts.items ≡ slice_set a.peers.items (p - 1) t → IsReady (exported_core a e ts x)
+ready_exported a e ts x p t ready local items = record {
+  few = ready.few;
+  local = local ∙ ready.local;
+  own = ready.own;
+  count = ap length items ∙ length-set a.peers.items (p - 1) t ∙ ready.count;
+  sources = ready.sources;
+}
+
 -- an export that ends in a change of what is advertised
 lands : (a : Core) (e : Kept) (ts : Vec Tables Global) (x : List ℕ) (sessions : List Owned) (prefix : Prefix) (p : ℕ)
     (tables : Tables) (o : Option (List ℕ)) (after : Trace → Trace)

@@ -1,5 +1,7 @@
 -- One function of a core after another.
 use Rattle.std.proofs.Common.{◌≡◌, refl, sym, ◌∙◌, ap, subst, ℕ, ◌+◌, List, [], ◌∷◌, ◌++◌, fold, length, arith}
+use Rattle.std.specs.Prelude.{Result, Ok, Err, OnOk, MatchResult}
+use Rattle.std.specs.declared.alloc.AllocError.{AllocError}
 use Rattle.std.specs.List.{range_with_len}
 use Rattle.std.specs.Map.{keys_of}
 use Rattle.std.proofs.lemmas.List.Sums.{fold_push}
@@ -10,7 +12,7 @@ use Rattle.bgp_fsm.specs.Sessions.{Owned}
 use Rattle.spk_model.specs.Routing.{Routing, Routed, export, export_all}
 use Rattle.spk_routes.proofs.RangeLemmas.{range_with_len-more}
 use Rattle.host_listed.specs.declared.routing.Core.{Core}
-use Rattle.host_listed.specs.Meaning.{Does, IsReady, setup_of, routing_of, routed}
+use Rattle.host_listed.specs.Meaning.{Does, Goes, IsReady, setup_of, routing_of, routed}
 
 -- nothing was done
 pub does_nothing : (c : Core) → IsReady c → Does (λ setup t. t) c c
@@ -81,3 +83,31 @@ does_all a b sessions p items is d =
     does_same (λ setup t. fold (λ u q. export setup sessions q u p) t items)
     (λ setup t. export_all setup sessions t p) a b
     (λ trace. ap (λ l. fold (λ u q. export (setup_of a) sessions q u p) (routed trace a) l) is) d
+
+-- what goes on after a step goes on from before it
+pub goes_weaker : (r : Result (Unit {0}) AllocError) (f g : Setup → Routed → Routed) (a b c : Core)
+    → (Does g b c → Does f a c) → Goes r g b c → Goes r f a c
+goes_weaker (Ok u) f g a b c to goes = to goes
+goes_weaker (Err e) f g a b c to goes = goes
+
+-- the same of what is known after a call
+pub match_weaker : {P Q R : Type 0} (r : Result (Unit {0}) AllocError) → (P → Q) → MatchResult r (λ v. P) (λ e. R)
+    → MatchResult r (λ v. Q) (λ e. R)
+match_weaker (Ok u) to known = to known
+match_weaker (Err e) to known = known
+
+pub goes_match : {P : Type 0} (r : Result (Unit {0}) AllocError) (f : Setup → Routed → Routed) (a c : Core)
+    → (P → Does f a c) → MatchResult r (λ v. P) (λ e. IsReady c) → Goes r f a c
+goes_match (Ok u) f a c to known = to known
+goes_match (Err e) f a c to known = known
+
+pub match_goes : {P : Type 0} (r : Result (Unit {0}) AllocError) (f : Setup → Routed → Routed) (a c : Core)
+    → (Does f a c → P) → Goes r f a c → MatchResult r (λ v. P) (λ e. IsReady c)
+match_goes (Ok u) f a c to known = to known
+match_goes (Err e) f a c to known = known
+
+-- what was done, or a core that may be used again
+pub goes_ok : {P : Type 0} (r : Result (Unit {0}) AllocError) (f : Setup → Routed → Routed) (a c : Core)
+    → (P → Does f a c) → IsReady c → OnOk r P → Goes r f a c
+goes_ok (Ok u) f a c to ready known = to known
+goes_ok (Err e) f a c to ready known = ready

@@ -1,9 +1,9 @@
 -- Walks over tables by their prefixes, and the sets that they make.
-use Rattle.std.proofs.Common.{◌≡◌, ◌<◌, ◌+◌, ◌-◌, get_or, refl, sym, ◌∙◌, ap, subst, ℕ, suc, List, [], ◌∷◌, ◌++◌, drop, fold, flat_map, length, arith, Option, Some, None}
+use Rattle.std.proofs.Common.{◌≡◌, ◌<◌, ◌≤◌, ◌+◌, ◌-◌, get_or, refl, sym, ◌∙◌, ap, subst, ℕ, suc, List, [], ◌∷◌, ◌++◌, drop, fold, flat_map, length, arith, Option, Some, None}
 use Rattle.std.specs.Map.{keys_of}
 use Rattle.std.specs.Option.{option_map}
 use Rattle.std.specs.Prelude.{slice_get}
-use Rattle.std.proofs.lemmas.List.{at_drop_more}
+use Rattle.std.proofs.lemmas.List.{at_drop_more, drop_all}
 use Rattle.std.proofs.lemmas.List.Sums.{fold-append}
 use Rattle.xb_words.specs.Table.{entries_after, entry_after, set_of, with_key, with_keys, IsRising}
 use Rattle.xb_words.proofs.TableLemmas.{entries_after-some, entries_after-none}
@@ -84,6 +84,20 @@ known_then ts i t set new all inside is new_is so_far =
     ∙ sym (keys_then set (known_of t) rest)
     ∙ sym (ap (with_keys prefix_cmp set) here)
     ∙ so_far
+
+-- the networks, before any peer
+pub known_first : (ns start new ks : List Prefix) → start ≡ [] → new ≡ with_keys prefix_cmp start ns
+    → with_keys prefix_cmp new ks ≡ set_of prefix_cmp (ns ++ ks)
+known_first ns start new ks none new_is =
+    ap (λ (s : List Prefix). with_keys prefix_cmp s ks)
+      (new_is ∙ ap (λ (s : List Prefix). with_keys prefix_cmp s ns) none)
+    ∙ sym (keys_then [] ns ks)
+
+-- after all peers
+pub known_all : (ts : List Tables) (i : ℕ) (set all : List Prefix) → length ts ≤ i
+    → with_keys prefix_cmp set (flat_map known_of (drop i ts)) ≡ all → set ≡ all
+known_all ts i set all end so_far =
+    sym (ap (λ (l : List Tables). with_keys prefix_cmp set (flat_map known_of l)) (drop_all i ts end)) ∙ so_far
 
 -- a peer is lost
 pub loses : (a b c : Core) (sessions : List Owned) (p : ℕ) (t : Tables) (set : List Prefix)

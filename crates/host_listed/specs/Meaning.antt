@@ -1,5 +1,6 @@
 -- The routes that a core keeps, and what it is for a function of it to follow a definition (this project's own).
-use Rattle.std.specs.Prelude.{◌≡◌, ℕ, ◌≤◌, List, length}
+use Rattle.std.specs.Prelude.{◌≡◌, ℕ, ◌≤◌, List, length, Result, Ok, Err}
+use Rattle.std.specs.declared.alloc.AllocError.{AllocError}
 use Rattle.std.specs.List.{AllByRecursion}
 use Rattle.xbgp_config.specs.declared.limits.TheConstants.{MAX_PEERS}
 use Rattle.spk_model.specs.declared.host.Setup.{Setup}
@@ -33,3 +34,8 @@ pub record Does (step : Setup → Routed → Routed) (old new : Core) : Type 0 w
   pub ready : IsReady new
   pub setup : setup_of new ≡ setup_of old
   pub routing : (trace : Trace) → (step (setup_of old) (routed trace old)).routing ≡ routing_of new
+
+-- the core went on as a definition says; or there was no memory, and the core may be used again
+abbrev pub Goes : Result (Unit {0}) AllocError → (Setup → Routed → Routed) → Core → Core → Type 0
+Goes (Ok u) step old new = Does step old new
+Goes (Err e) step old new = IsReady new

@@ -1,5 +1,5 @@
 // The candidates of a prefix, and the best among them.
-ghost use Rattle.std.specs.Prelude.{◌≡◌, ◌≤◌, length, IfOk};
+ghost use Rattle.std.specs.Prelude.{◌≡◌, ◌≤◌, length, IfOk, MatchResult};
 ghost use Rattle.xbgp_config.specs.declared.limits.TheConstants.{MAX_PEERS};
 ghost use Rattle.spk_model.specs.Sources.{local_route};
 ghost use Rattle.spk_routes.specs.Candidates.{shown};
@@ -58,7 +58,8 @@ pub(crate) fn winner(
     requires all { length sessions.now ≡ length config.now.peers }
     requires few { length config.now.peers ≤ MAX_PEERS }
     requires count { length peers.now ≡ length config.now.peers }
-    ensures { IfOk result (IsWinner config.now engine.old engine.new peers.now sessions.now prefix) }
+    ensures { MatchResult result (IsWinner config.now engine.old engine.new peers.now sessions.now prefix)
+        (λ e. engine.new.local ≡ engine.old.local) }
 {
     let found = gather(alloc, config, own, peers, sessions, prefix)?;
     if found.count() == 0 {

@@ -5,6 +5,5 @@ mod best;
 mod decision;
 mod rescan;
 mod routing;
-mod start;
 mod tables;
 mod update;

@@ -5,7 +5,7 @@ ghost use Rattle.xb_words.specs.Table.{set_of, with_keys};
 ghost use Rattle.xb_values.specs.Prefixes.{prefix_cmp};
 ghost use Rattle.spk_model.specs.Routing.{lose, no_tables, set_tables, settle_all};
 ghost use Rattle.spk_model.specs.Turning.{known_prefixes};
-ghost use Rattle.host_listed.specs.Meaning.{Does, IsReady};
+ghost use Rattle.host_listed.specs.Meaning.{Goes, IsReady};
 
 use crate::routing::Core;
 use crate::tables::PeerTables;
@@ -68,7 +68,7 @@ impl Core {
         requires ready { IsReady self.old }
         requires least { 1 ≤ peer }
         requires most { peer ≤ length self.old.config.peers }
-        ensures { OnOk result (Does (λ setup t. set_tables t peer no_tables) self.old self.new) }
+        ensures { Goes result (λ setup t. set_tables t peer no_tables) self.old self.new }
     {
         self.peers[peer as usize - 1] = PeerTables::make(alloc)?;
         Ok(())
@@ -85,7 +85,7 @@ impl Core {
         requires all { length sessions.now ≡ length self.old.config.peers }
         requires least { 1 ≤ peer }
         requires most { peer ≤ length self.old.config.peers }
-        ensures { OnOk result (Does (λ setup t. lose setup sessions.now t peer) self.old self.new) }
+        ensures { Goes result (λ setup t. lose setup sessions.now t peer) self.old self.new }
     {
         let prefixes = sent_by(alloc, &self.peers[peer as usize - 1])?;
         self.clear_tables(alloc, peer)?;
@@ -96,8 +96,7 @@ impl Core {
     pub(crate) fn rescan(&mut self, alloc: Global, sessions: &[Session]) -> Result<(), AllocError>
         requires ready { IsReady self.old }
         requires all { length sessions.now ≡ length self.old.config.peers }
-        ensures { OnOk result (Does
-            (λ setup t. settle_all setup sessions.now t (known_prefixes setup t.routing)) self.old self.new) }
+        ensures { Goes result (λ setup t. settle_all setup sessions.now t (known_prefixes setup t.routing)) self.old self.new }
     {
         let prefixes = known(alloc, &self.config, &self.peers)?;
         self.settle_set(alloc, sessions, prefixes)

@@ -1,10 +1,10 @@
 // The routes, without what keeps them sound: deciding, exporting and settling prefixes.
-ghost use Rattle.std.specs.Prelude.{◌≡◌, ◌≤◌, ◌+◌, [], length, fold, IfOk, OnOk};
+ghost use Rattle.std.specs.Prelude.{◌≡◌, ◌≤◌, ◌+◌, [], length, fold, IfOk};
 ghost use Rattle.std.specs.Map.{keys_of};
 ghost use Rattle.bgp_fsm.specs.Sessions.{Owned};
 ghost use Rattle.spk_model.specs.Sources.{peer_numbers};
 ghost use Rattle.spk_model.specs.Routing.{decide, export, export_all, settle};
-ghost use Rattle.host_listed.specs.Meaning.{Does, IsReady};
+ghost use Rattle.host_listed.specs.Meaning.{Goes, IsReady};
 
 use crate::best::Best;
 use crate::decision::winner;
@@ -44,7 +44,7 @@ impl Core {
     ) -> Result<(), AllocError>
         requires ready { IsReady self.old }
         requires all { length sessions.now ≡ length self.old.config.peers }
-        ensures { OnOk result (Does (λ setup t. decide setup sessions.now t prefix) self.old self.new) }
+        ensures { Goes result (λ setup t. decide setup sessions.now t prefix) self.old self.new }
     {
         match winner(
             alloc,
@@ -76,7 +76,7 @@ impl Core {
         requires all { length sessions.now ≡ length self.old.config.peers }
         requires least { 1 ≤ peer }
         requires most { peer ≤ length self.old.config.peers }
-        ensures { OnOk result (Does (λ setup t. export setup sessions.now prefix t peer) self.old self.new) }
+        ensures { Goes result (λ setup t. export setup sessions.now prefix t peer) self.old self.new }
     {
         let i = peer as usize - 1;
         if !is_up(&sessions[i]) {
@@ -113,7 +113,7 @@ impl Core {
     ) -> Result<(), AllocError>
         requires ready { IsReady self.old }
         requires all { length sessions.now ≡ length self.old.config.peers }
-        ensures { OnOk result (Does (λ setup t. settle setup sessions.now t prefix) self.old self.new) }
+        ensures { Goes result (λ setup t. settle setup sessions.now t prefix) self.old self.new }
     {
         self.decide(alloc, sessions, prefix)?;
         'peers: for i in 0..sessions.len() {
@@ -131,7 +131,7 @@ impl Core {
     ) -> Result<(), AllocError>
         requires ready { IsReady self.old }
         requires all { length sessions.now ≡ length self.old.config.peers }
-        ensures { OnOk result (Does (λ setup t. fold (settle setup sessions.now) t prefixes) self.old self.new) }
+        ensures { Goes result (λ setup t. fold (settle setup sessions.now) t prefixes) self.old self.new }
     {
         'prefixes: while let Some(prefix) = prefixes.pop_first() {
             self.settle(alloc, sessions, prefix)?;
@@ -150,7 +150,7 @@ impl Core {
         requires all { length sessions.now ≡ length self.old.config.peers }
         requires least { 1 ≤ peer }
         requires most { peer ≤ length self.old.config.peers }
-        ensures { OnOk result (Does (λ setup t. export_all setup sessions.now t peer) self.old self.new) }
+        ensures { Goes result (λ setup t. export_all setup sessions.now t peer) self.old self.new }
     {
         let prefixes = prefixes_of(alloc, &self.best)?;
         'prefixes: for prefix in &prefixes {

@@ -2,7 +2,7 @@
 ghost use Rattle.std.specs.Prelude.{◌≡◌, ◌≤◌, [], length, filter, not, true, IfOk, IfSome, OnOk, OnErr};
 ghost use Rattle.std.specs.Map.{keys_of};
 ghost use Rattle.std.specs.Option.{option_map};
-ghost use Rattle.xb_words.specs.Table.{has_key, value_at, with_keys, with_value, without};
+ghost use Rattle.xb_words.specs.Table.{entry_after, has_key, value_at, with_keys, with_value, without, IsRising};
 ghost use Rattle.xb_values.specs.Prefixes.{are_prefixes, prefix_cmp, prefixes};
 ghost use Rattle.xb_wire.specs.declared.numbers.TheConstants.{MAX_SECTION};
 ghost use Rattle.spk_model.specs.Routing.{without_all};
@@ -126,23 +126,46 @@ impl PeerTables {
     pub(crate) fn add_sent(&self, set: &mut PrefixSet) -> Result<(), AllocError>
         ensures { OnOk result (set.new ≡ with_keys prefix_cmp set.old (keys_of self.now.adjin)) }
     {
-        let mut after = None;
-        'prefixes: while let Some(prefix) = self.sent.after(after) {
-            set.add(prefix)?;
-            after = Some(prefix);
-        }
-        Ok(())
+        add_prefixes(&self.sent, set)
     }
 
     /// The same of the prefixes that the peer is advertised.
     pub(crate) fn add_advertised(&self, set: &mut PrefixSet) -> Result<(), AllocError>
         ensures { OnOk result (set.new ≡ with_keys prefix_cmp set.old (keys_of self.now.adv)) }
     {
-        let mut after = None;
-        'prefixes: while let Some((prefix, _)) = self.out.adv_after(after) {
-            set.add(prefix)?;
-            after = Some(prefix);
-        }
-        Ok(())
+        add_told(&self.out, set)
     }
+}
+
+// Adds the prefixes of a table to a set.
+fn add_prefixes(table: &PeerTable, set: &mut PrefixSet) -> Result<(), AllocError>
+    ensures { OnOk result (set.new ≡ with_keys prefix_cmp set.old (keys_of table.now)) }
+{
+    let mut after = None;
+    'prefixes: while let Some(prefix) = table.after(after) {
+        set.add(prefix)?;
+        after = Some(prefix);
+    }
+    Ok(())
+}
+
+// The first advertised prefix after another, or the first of all.
+fn told_after(out: &SortedOut, after: Option<Prefix>) -> Option<Prefix>
+    ensures prefix { result ≡ option_map (λ e. e.0) (entry_after prefix_cmp out.now.adv after) }
+    ensures rising { IsRising prefix_cmp out.now.adv }
+{
+    let (prefix, _) = out.adv_after(after)?;
+    Some(prefix)
+}
+
+// Adds the prefixes that are advertised to a set.
+fn add_told(out: &SortedOut, set: &mut PrefixSet) -> Result<(), AllocError>
+    ensures { OnOk result (set.new ≡ with_keys prefix_cmp set.old (keys_of out.now.adv)) }
+{
+    let mut after = None;
+    'prefixes: while let Some(prefix) = told_after(out, after) {
+        set.add(prefix)?;
+        after = Some(prefix);
+    }
+    Ok(())
 }

@@ -1,5 +1,5 @@
 // What an UPDATE without fault does to the routes.
-ghost use Rattle.std.specs.Prelude.{◌≡◌, ◌≤◌, ◌++◌, ◌==◌, not, length, fold, true, Some, None, IfOk, OnOk};
+ghost use Rattle.std.specs.Prelude.{◌≡◌, ◌≤◌, ◌++◌, ◌==◌, not, length, fold, true, Some, None, IfOk, OnOk, OnErr, MatchResult};
 ghost use Rattle.xb_words.specs.Table.{set_of};
 ghost use Rattle.xb_wire.specs.Messages.{Update};
 ghost use Rattle.xb_wire.specs.declared.numbers.TheConstants.{MAX_BODY};
@@ -9,7 +9,7 @@ ghost use Rattle.bgp_check.specs.Judgement.{judge, judge_section};
 ghost use Rattle.spk_model.specs.Sources.{is_wide, side_of as side_in};
 ghost use Rattle.spk_model.specs.Routing.{announce, announce_one, drop_all, receive_route, routes_of, update, withdraw};
 ghost use Rattle.spk_routes.specs.Sound.{IsSound};
-ghost use Rattle.host_listed.specs.Meaning.{Does, IsReady};
+ghost use Rattle.host_listed.specs.Meaning.{Does, Goes, IsReady};
 
 use crate::routing::Core;
 use bgp_fsm::Session;
@@ -59,8 +59,10 @@ impl Core {
         requires most { peer ≤ length self.old.config.peers }
         requires whole { are_prefixes withdrawn.now ≡ true }
         requires announced { are_prefixes nlri.now ≡ true }
-        ensures { OnOk result ((u : Update) → u.withdrawn ≡ withdrawn.now → u.nlri ≡ nlri.now
-            → Does (λ setup t. withdraw setup sessions.now t peer u) self.old self.new) }
+        ensures { MatchResult result
+            (λ v. (u : Update) → u.withdrawn ≡ withdrawn.now → u.nlri ≡ nlri.now
+            → Does (λ setup t. withdraw setup sessions.now t peer u) self.old self.new)
+            (λ e. IsReady self.new) }
     {
         let _ = sessions;
         let mut announced = PrefixSet::make(alloc);
@@ -89,6 +91,7 @@ impl Core {
         ensures does { OnOk result (Does
             (λ setup t. announce_one setup sessions.now now self.old.received.route peer t prefix) self.old self.new) }
         ensures kept { OnOk result (self.new.received ≡ self.old.received) }
+        ensures ready { OnErr result (IsReady self.new) }
     {
         let i = peer as usize - 1;
         self.route.load(&self.received);
@@ -119,9 +122,7 @@ impl Core {
         requires side { side.now ≡ side_in self.old.config sessions.now peer }
         requires sound { IsSound self.old.received.route }
         requires whole { are_prefixes nlri.now ≡ true }
-        ensures { OnOk result (Does
-            (λ setup t. fold (announce_one setup sessions.now now self.old.received.route peer) t (prefixes nlri.now))
-            self.old self.new) }
+        ensures { Goes result (λ setup t. fold (announce_one setup sessions.now now self.old.received.route peer) t (prefixes nlri.now)) self.old self.new }
     {
         let mut rest = EachPrefix::new(nlri);
         'prefixes: while let Some(prefix) = rest.next() {
@@ -148,9 +149,7 @@ impl Core {
         requires short { length body.now ≤ MAX_BODY }
         requires sound { IsSound self.old.received.route }
         requires whole { are_prefixes nlri.now ≡ true }
-        ensures { OnOk result (Does
-            (λ setup t. receive_route setup sessions.now now t peer body.now (prefixes nlri.now) self.old.received.route)
-            self.old self.new) }
+        ensures { Goes result (λ setup t. receive_route setup sessions.now now t peer body.now (prefixes nlri.now) self.old.received.route) self.old self.new }
     {
         let outcome = self
             .engine
@@ -180,8 +179,10 @@ impl Core {
         requires section { length section.now ≤ MAX_BODY }
         requires good { judge_section (width_of (is_wide sessions.now peer)) section.now true ≡ None }
         requires whole { are_prefixes nlri.now ≡ true }
-        ensures { OnOk result ((u : Update) → u.section ≡ section.now → Does
-            (λ setup t. announce setup sessions.now now t peer body.now u (prefixes nlri.now)) self.old self.new) }
+        ensures { MatchResult result
+            (λ v. (u : Update) → u.section ≡ section.now → Does
+            (λ setup t. announce setup sessions.now now t peer body.now u (prefixes nlri.now)) self.old self.new)
+            (λ e. IsReady self.new) }
     {
         let side = side_of(&self.config, sessions, peer);
         let wide = sessions[peer as usize - 1].wide();
@@ -212,9 +213,7 @@ impl Core {
             (not (length parts.now.nlri == 0)) ≡ None }
         requires whole { are_prefixes parts.now.withdrawn ≡ true }
         requires announced { are_prefixes parts.now.nlri ≡ true }
-        ensures { OnOk result (Does
-            (λ setup t. routes_of setup sessions.now now t peer body.now parts.now (prefixes parts.now.nlri))
-            self.old self.new) }
+        ensures { Goes result (λ setup t. routes_of setup sessions.now now t peer body.now parts.now (prefixes parts.now.nlri)) self.old self.new }
     {
         let mut announced = EachPrefix::new(parts.nlri());
         let Some(_) = announced.next() else {
@@ -239,7 +238,7 @@ impl Core {
         requires most { peer ≤ length self.old.config.peers }
         requires short { length body.now ≤ MAX_BODY }
         requires good { judge (width_of (is_wide sessions.now peer)) body.now ≡ None }
-        ensures { OnOk result (Does (λ setup t. update setup sessions.now now t peer body.now) self.old self.new) }
+        ensures { Goes result (λ setup t. update setup sessions.now now t peer body.now) self.old self.new }
     {
         let Some(parts) = UpdateView::new(body) else {
             return Ok(());

@@ -1,7 +1,7 @@
 use Rattle.std.proofs.Common.{◌≡◌, ◌≤◌, ◌∙◌, sym, ap, subst, ℕ, length}
 use Rattle.std.specs.Prelude.{nat_le}
 use Rattle.std.proofs.Math.Facts.{Fits-lt-pow}
-use Rattle.std.proofs.lemmas.Result.{on_ok_weaker}
+use Rattle.host_listed.proofs.FollowingLemmas.{match_goes}
 use Rattle.xb_wire.specs.declared.numbers.TheConstants.{MAX_MESSAGE}
 use Rattle.xb_values.specs.Prefixes.{prefixes}
 use Rattle.bgp_attr.specs.Routes.{Route, canon}
@@ -39,7 +39,7 @@ returns-then-read_route c =
         c.index-sessions-peer.is c.wide-wide.ensures in
     let same = route_is a c.args.sessions.now c.args.peer c.side_of-side.result c.args.section.now c.wide-wide.result
         c.side_of-side.ensures wide_is in
-    on_ok_weaker c.receive.result
+    match_goes c.receive.result _ _ c.receive.new.self
     (λ d u section_is. announces a c.read_route.new.route c.receive.new.self c.args.sessions.now c.args.now c.args.peer
       c.args.body.now c.args.section.now u (prefixes c.args.nlri.now) section_is
       (sym (ap (λ (r : Route). nat_le (length (canon r)) MAX_MESSAGE) same) ∙ sym c.if-read_route.ensures.fits)

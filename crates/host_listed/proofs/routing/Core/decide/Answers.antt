@@ -4,6 +4,12 @@ use Rattle.host_listed.specs.Deciding.{IsWinner}
 use Rattle.host_listed.proofs.DecideLemmas.{decides}
 use Rattle.host_listed.proofs.routing.Core.decide.Goals as goal
 
+pub returns-in_err-winner : goal.returns-in_err-winner
+returns-in_err-winner c = ?
+
+pub returns-in_err-insert-in-Some : goal.returns-in_err-insert-in-Some
+returns-in_err-insert-in-Some c = ?
+
 pub returns-in-None : goal.returns-in-None
 returns-in-None c =
     let a = c.args.self.now in

@@ -1,10 +1,10 @@
 use Rattle.std.proofs.Common.{◌≡◌, ◌≤◌, ◌-◌, ◌∙◌, sym, ap, subst, refl, ℕ, List, length, Some, None}
-use Rattle.std.proofs.lemmas.Result.{on_ok_weaker}
+use Rattle.host_listed.proofs.FollowingLemmas.{goes_ok}
 use Rattle.std.specs.Vec.{with_item}
 use Rattle.std.specs.List.{slice_set}
 use Rattle.spk_model.specs.Routing.{Tables}
 use Rattle.spk_model.specs.Sources.{is_established}
-use Rattle.host_listed.proofs.ExportLemmas.{not_exported, retracted, exports, source_within}
+use Rattle.host_listed.proofs.ExportLemmas.{not_exported, retracted, exports, source_within, ready_exported}
 use Rattle.host_listed.proofs.routing.Core.export.Goals as goal
 
 pub returns-then-not-is_up : goal.returns-then-not-is_up
@@ -30,7 +30,7 @@ pub returns-then-export : goal.returns-then-export
 returns-then-export c =
     let a = c.args.self.now in
     let p = c.args.peer in
-    on_ok_weaker c.advertise.result
+    goes_ok c.advertise.result _ a _
     (λ e. exports a c.export.new.engine (with_item a.peers (p - 1) c.advertise.new.self) c.export.new.self
       c.args.sessions.now c.args.prefix p c.index_mut-then-export.result.now c.index-sessions-i.result
       c.index-sessions-i-2.result c.in-Some.best.now c.source.result c.route.result.now c.side_of-to.result
@@ -42,6 +42,8 @@ returns-then-export c =
       c.if-export.ensures.manifest c.if-export.ensures.local
       c.index_mut-then-export.ensures.value
       (ap (λ (x : Tables). slice_set a.peers.items (p - 1) x) e))
+    (ready_exported a c.export.new.engine (with_item a.peers (p - 1) c.advertise.new.self) c.export.new.self p
+      c.advertise.new.self c.requires.ready c.if-export.ensures.local refl)
     c.advertise.ensures.ok
 
 pub returns-else-export : goal.returns-else-export

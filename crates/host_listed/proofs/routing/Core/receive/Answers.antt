@@ -1,5 +1,5 @@
 use Rattle.std.proofs.Common.{◌≡◌, ◌∙◌, sym, ap, subst, ℕ}
-use Rattle.std.proofs.lemmas.Result.{on_ok_weaker}
+use Rattle.host_listed.proofs.FollowingLemmas.{goes_weaker}
 use Rattle.xb_values.specs.Prefixes.{prefixes}
 use Rattle.xbgp_points.specs.Engines.{Answers}
 use Rattle.xbgp_points.specs.Points.{receive}
@@ -9,7 +9,7 @@ use Rattle.host_listed.proofs.routing.Core.receive.Goals as goal
 pub returns-then-accepts : goal.returns-then-accepts
 returns-then-accepts c =
     let a = c.args.self.now in
-    on_ok_weaker c.announce_each.result
+    goes_weaker c.announce_each.result _ _ a _ _
     (λ d. receives a c.receive-outcome.new.self c.announce_each.new.self c.args.sessions.now c.args.now c.args.peer
       c.args.side.now c.args.body.now (prefixes c.args.nlri.now) c.receive-outcome.new.route c.receive-outcome.result
       c.requires.ready c.requires.side

@@ -1,20 +1,19 @@
 use Rattle.std.proofs.Common.{◌≡◌, ◌≤◌, ◌∙◌, sym, ap, subst, ℕ, Bool, true, List, length, None}
 use Rattle.std.specs.Prelude.{not, ◌==◌}
-use Rattle.std.proofs.lemmas.Result.{on_ok_weaker}
 use Rattle.xb_values.specs.Prefixes.{prefixes}
 use Rattle.bgp_attr.specs.Paths.{width_of}
 use Rattle.bgp_check.specs.Judgement.{judge_section}
 use Rattle.spk_model.specs.Sources.{is_wide}
 use Rattle.spk_model.specs.Routing.{announce}
 use Rattle.host_listed.specs.Meaning.{Does}
-use Rattle.host_listed.proofs.FollowingLemmas.{does_peers}
+use Rattle.host_listed.proofs.FollowingLemmas.{does_peers, goes_match}
 use Rattle.host_listed.proofs.UpdateLemmas.{some_routes, none_routes, are_there}
 use Rattle.host_listed.proofs.routing.Core.take_routes.Goals as goal
 
 pub returns-in_default : goal.returns-in_default
 returns-in_default c =
     let a = c.args in
-    on_ok_weaker c.withdraw.result
+    goes_match c.withdraw.result _ a.self.now c.withdraw.new.self
     (λ d. none_routes a.self.now c.withdraw.new.self a.sessions.now a.now a.peer a.body.now a.parts.now
       (prefixes a.parts.now.nlri)
       (ap prefixes (sym c.nlri.ensures) ∙ sym c.new-announced.ensures ∙ c.in_default.ensures.end.0)
@@ -44,7 +43,7 @@ withdraw-requires-2-clause-most c =
 pub returns : goal.returns
 returns c =
     let a = c.args in
-    on_ok_weaker c.withdraw-2.result
+    goes_match c.withdraw-2.result _ a.self.now c.withdraw-2.new.self
     (λ d. some_routes a.self.now c.announce.new.self c.withdraw-2.new.self a.sessions.now a.now a.peer a.body.now
       a.parts.now _ c.next.new.self (prefixes a.parts.now.nlri)
       (ap prefixes (sym c.nlri.ensures) ∙ sym c.new-announced.ensures ∙ c.in-Some.ensures.first)

@@ -1,5 +1,5 @@
 use Rattle.std.proofs.Common.{◌≡◌, ◌∙◌, sym, ap, subst, true, List, ℕ}
-use Rattle.std.proofs.lemmas.Result.{on_ok_weaker}
+use Rattle.host_listed.proofs.FollowingLemmas.{goes_weaker}
 use Rattle.std.specs.Prelude.{◌++◌}
 use Rattle.xb_words.specs.Table.{set_of}
 use Rattle.xb_values.specs.Prefixes.{Prefix, are_prefixes, prefix_cmp, prefixes}
@@ -47,7 +47,7 @@ returns c =
     let a = c.args in
     let p = AreParts-judge (width_of (is_wide a.sessions.now a.peer)) a.body.now c.in-Some.parts c.requires.good
         c.in-Some.ensures.parts in
-    on_ok_weaker c.settle_set.result
+    goes_weaker c.settle_set.result _ _ a.self.now c.take_routes.new.self c.settle_set.new.self
     (λ d. then_settled a.self.now c.take_routes.new.self c.settle_set.new.self a.sessions.now a.now a.peer a.body.now
       c.in-Some.parts c.in_ok-named.named p.parts
       (c.in_ok-named.ensures
