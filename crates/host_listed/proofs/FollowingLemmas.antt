@@ -3,6 +3,7 @@ use Rattle.std.proofs.Common.{◌≡◌, refl, sym, ◌∙◌, ap, subst, ℕ, �
 use Rattle.std.specs.Prelude.{Result, Ok, Err, OnOk, MatchResult}
 use Rattle.std.specs.declared.alloc.AllocError.{AllocError}
 use Rattle.std.specs.List.{range_with_len}
+use Rattle.std.specs.Result.{IsErr}
 use Rattle.std.specs.Map.{keys_of}
 use Rattle.std.proofs.lemmas.List.Sums.{fold_push}
 use Rattle.spk_model.specs.declared.host.Setup.{Setup}
@@ -91,11 +92,6 @@ goes_weaker (Ok u) f g a b c to goes = to goes
 goes_weaker (Err e) f g a b c to goes = goes
 
 -- the same of what is known after a call
-pub match_weaker : {P Q R : Type 0} (r : Result (Unit {0}) AllocError) → (P → Q) → MatchResult r (λ v. P) (λ e. R)
-    → MatchResult r (λ v. Q) (λ e. R)
-match_weaker (Ok u) to known = to known
-match_weaker (Err e) to known = known
-
 pub goes_match : {P : Type 0} (r : Result (Unit {0}) AllocError) (f : Setup → Routed → Routed) (a c : Core)
     → (P → Does f a c) → MatchResult r (λ v. P) (λ e. IsReady c) → Goes r f a c
 goes_match (Ok u) f a c to known = to known
@@ -111,3 +107,9 @@ pub goes_ok : {P : Type 0} (r : Result (Unit {0}) AllocError) (f : Setup → Rou
     → (P → Does f a c) → IsReady c → OnOk r P → Goes r f a c
 goes_ok (Ok u) f a c to ready known = to known
 goes_ok (Err e) f a c to ready known = ready
+
+-- there was no memory, and the core may be used again
+pub goes_err : (r : Result (Unit {0}) AllocError) (f : Setup → Routed → Routed) (a c : Core) → IsReady c → IsErr r
+    → Goes r f a c
+goes_err (Ok u) f a c ready is = absurd (cc is)
+goes_err (Err e) f a c ready is = ready

@@ -154,8 +154,10 @@ fn told_after(out: &SortedOut, after: Option<Prefix>) -> Option<Prefix>
     ensures prefix { result ≡ option_map (λ e. e.0) (entry_after prefix_cmp out.now.adv after) }
     ensures rising { IsRising prefix_cmp out.now.adv }
 {
-    let (prefix, _) = out.adv_after(after)?;
-    Some(prefix)
+    match out.adv_after(after) {
+        Some((prefix, _)) => Some(prefix),
+        None => None,
+    }
 }
 
 // Adds the prefixes that are advertised to a set.
