@@ -42,7 +42,7 @@ fn node_at(nodes: &[Node], code: u8) -> Option<&Node>
 
 impl AttrList {
     /// A copy of the route that a view shows. The error is want of memory.
-    pub(crate) fn copy_of<R: RouteView>(alloc: Global, view: &R) -> Result<AttrList, AllocError>
+    pub fn copy_of<R: RouteView>(alloc: Global, view: &R) -> Result<AttrList, AllocError>
         ensures { IfOk result (λ l. l ≡ R.route view.now) }
     {
         let mut nodes = Vec::new(alloc);

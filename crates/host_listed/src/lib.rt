@@ -1,0 +1,9 @@
+//! The host that keeps lists of attributes.
+#![tactic(auto)]
+
+mod best;
+mod decision;
+mod rescan;
+mod routing;
+mod tables;
+mod update;

@@ -1,0 +1,11 @@
+pub mod RangeLemmas
+pub mod StepLemmas
+pub mod SetLemmas
+pub mod HopLemmas
+pub mod SoundLemmas
+pub mod LocalLemmas
+pub mod CandidatesLemmas
+pub mod ExportLemmas
+pub mod FaultLemmas
+pub mod EachLemmas
+pub mod ReceiptLemmas

@@ -1,0 +1,218 @@
+// What a best route becomes for a peer.
+ghost use Rattle.std.specs.Prelude.{◌≡◌, ◌≤◌, [], length, Some, None, IfOk, IsTrue, MatchBool};
+ghost use Rattle.bgp_attr.specs.Routes.{route_of, IsRoute};
+ghost use Rattle.spk_native.specs.Export.{carry};
+ghost use Rattle.spk_native.specs.Filters.{accepts_outbound};
+ghost use Rattle.spk_native.specs.Receipt.{wire};
+ghost use Rattle.spk_native.specs.Values.{HasNoFault};
+ghost use Rattle.xbgp_points.specs.Points.{outbound};
+ghost use Rattle.spk_model.specs.Choosing.{Trace};
+ghost use Rattle.spk_model.specs.Exporting.{accepted, encoded_for, exported, short_enough};
+ghost use Rattle.spk_routes.specs.Exports.{given_or, Exports, Passes};
+ghost use Rattle.spk_routes.specs.Rooms.{HaveRoom};
+ghost use Rattle.spk_routes.specs.Sound.{IsSound};
+
+use crate::sides::{local_of, local_pref_of};
+use bgp_attr::MAX_CANONICAL;
+use spk_native::{export_attrs, narrow_route, native_section, outbound_native};
+use std::alloc::{AllocError, Global};
+use std::marker::Model;
+use xb_domain::Side;
+use xb_values::{Buf, Prefix};
+use xb_wire::numbers::MAX_SECTION;
+use xbgp_config::Config;
+use xbgp_points::{Engine, Outcome};
+use xbgp_view::{Overlay, RouteView, write_section};
+
+// The buffers of sections: what the native function writes, what programs give, and what is advertised.
+#[derive(Drop)]
+struct Sections {
+    native: Buf,
+    given: Buf,
+    sent: Buf,
+}
+
+/// Exports best routes to peers. All room is taken when it is made. Contracts see the section that was written last.
+#[derive(Drop)]
+pub struct Exporter {
+    route: Overlay,
+    sections: Sections,
+}
+
+impl Model for Exporter {
+    ghost use Rattle.std.specs.Prelude.{ℕ, List};
+    ghost use Rattle.spk_routes.specs.Rooms.{HaveRoom};
+
+    ghost Value = { List ℕ };
+
+    ghost view = { λ e. e.sections.sent.octets };
+
+    ghost invariant = { λ e. HaveRoom e.sections };
+}
+
+/// Whether a chain accepts: by its verdict, which is 1, or else as the native function does.
+pub fn accepts(outcome: &Outcome, native: bool) -> bool
+    ensures { result ≡ accepted outcome.now native }
+{
+    match outcome {
+        Outcome::Verdict(verdict) => *verdict == 1,
+        Outcome::Native | Outcome::Failed { .. } => native,
+    }
+}
+
+// The section that programs gave, or the native one.
+fn given_section<'a>(outcome: &Outcome, given: &'a [u8], native: &'a [u8]) -> &'a [u8]
+    ensures { result.now ≡ given_or outcome.now given.now native.now }
+{
+    match outcome {
+        Outcome::Verdict(_) => given,
+        Outcome::Native | Outcome::Failed { .. } => native,
+    }
+}
+
+// Shows contracts that an overlay has a route that a view may show.
+fn see_shape(route: &Overlay)
+    ensures { IsRoute route.now.route }
+{
+    let _ = route.code_from(0);
+}
+
+// Writes a section in the form of a session, and returns whether it is short enough to be sent.
+fn write_form(section: &[u8], wide: bool, route: &mut Overlay, out: &mut Buf) -> bool
+    requires short { length section.now ≤ MAX_CANONICAL }
+    requires faultless { HasNoFault (route_of section.now) }
+    requires room { out.old.capacity ≡ MAX_CANONICAL }
+    ensures written { MatchBool result
+        (short_enough (wire section.now wide) ≡ Some out.new.octets)
+        (short_enough (wire section.now wide) ≡ None) }
+    ensures capacity { out.new.capacity ≡ MAX_CANONICAL }
+{
+    if wide {
+        if section.len() > MAX_SECTION {
+            return false;
+        }
+        out.replace(section);
+        return true;
+    }
+    route.read(section);
+    if !narrow_route(route) {
+        return false;
+    }
+    write_section(route, out);
+    true
+}
+
+// Carries a best route over to a peer, and returns whether it passes outbound.
+fn pass_outbound<R: RouteView>(
+    route: &mut Overlay,
+    engine: &mut Engine,
+    config: &Config,
+    peer: &Side,
+    source: &Side,
+    prefix: Prefix,
+    best: &R,
+) -> bool
+    requires local { engine.old.local ≡ config.now.local }
+    requires sound { IsSound (R.route best.now) }
+    ensures { Passes
+        (outbound engine.old.manifest config.now.local engine.old.engine peer.now source.now prefix (R.route best.now)
+        (carry (R.route best.now) source.now peer.now config.now.local config.now.local_pref))
+        (accepts_outbound source.now peer.now) engine.old engine.new route.new.route result }
+{
+    route.load(best);
+    see_shape(route);
+    export_attrs(route, source, peer, &local_of(config), local_pref_of(config));
+    let outcome = engine.outbound(peer, source, prefix, best, route);
+    see_shape(route);
+    accepts(&outcome, outbound_native(source, peer))
+}
+
+// Writes the section of a route that passed outbound, and returns whether it is short enough to be sent.
+fn encode_route<R: RouteView>(
+    route: &mut Overlay,
+    engine: &mut Engine,
+    peer: &Side,
+    wide: bool,
+    source: &Side,
+    best: &R,
+    out: &mut Sections,
+) -> bool
+    requires shape { IsRoute route.old.route }
+    requires faultless { HasNoFault route.old.route }
+    requires room { HaveRoom out.old }
+    ensures exports { (trace : Trace) → Exports
+        (encoded_for engine.old.manifest engine.old.local engine.old.engine peer.now wide source.now (R.route best.now)
+        route.old.route trace)
+        engine.old engine.new result out.new.sent.octets }
+    ensures room { HaveRoom out.new }
+{
+    native_section(route, &mut out.native);
+    out.given.clear();
+    let outcome = engine.encode(
+        peer,
+        source,
+        best,
+        route,
+        out.native.as_slice(),
+        &mut out.given,
+    );
+    let section = given_section(&outcome, out.given.as_slice(), out.native.as_slice());
+    write_form(section, wide, route, &mut out.sent)
+}
+
+impl Exporter {
+    /// An exporter that wrote no section yet. The error is want of memory.
+    pub fn make(alloc: Global) -> Result<Exporter, AllocError>
+        ensures { IfOk result (λ e. e ≡ []) }
+    {
+        Ok(Exporter {
+            route: Overlay::make(alloc)?,
+            sections: Sections {
+                native: Buf::make(alloc, MAX_CANONICAL)?,
+                given: Buf::make(alloc, MAX_CANONICAL)?,
+                sent: Buf::make(alloc, MAX_CANONICAL)?,
+            },
+        })
+    }
+
+    /// The section that was written last.
+    pub fn section(&self) -> &[u8]
+        ensures { result.now ≡ self.now }
+    {
+        self.sections.sent.as_slice()
+    }
+
+    /// Exports the best route of a prefix, which came from `source`, to a peer: it is carried over, and passes outbound
+    /// and encode. Whether the prefix is then advertised is returned; if so, the section in the form of the peer's
+    /// session, in which AS numbers have four octets (`wide`) or two, can be read until the next export.
+    pub fn export<R: RouteView>(
+        &mut self,
+        engine: &mut Engine,
+        config: &Config,
+        peer: &Side,
+        wide: bool,
+        source: &Side,
+        prefix: Prefix,
+        best: &R,
+    ) -> bool
+        requires local { engine.old.local ≡ config.now.local }
+        requires sound { IsSound (R.route best.now) }
+        ensures { Exports
+            (exported engine.old.manifest config.now.local config.now.local_pref engine.old.engine peer.now wide
+            source.now prefix (R.route best.now))
+            engine.old engine.new result self.new }
+    {
+        if !pass_outbound(&mut self.route, engine, config, peer, source, prefix, best) {
+            return false;
+        }
+        encode_route(
+            &mut self.route,
+            engine,
+            peer,
+            wide,
+            source,
+            best,
+            &mut self.sections,
+        )
+    }
+}
