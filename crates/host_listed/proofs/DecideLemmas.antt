@@ -53,20 +53,20 @@ found_then config sessions tables prefix i t found new o kept count inside t_is 
     let next : i + 1 ≡ 1 + i = omega arith in
     let index : 1 + i - 1 ≡ i = omega arith in
     let there : o ≡ sent_in tables prefix (1 + i) =
-        o_is
-        ∙ ap (λ (x : Tables). value_at prefix_cmp x.adjin prefix) (t_is ∙ get_or_default tables i t no_tables inside)
-        ∙ ap (λ (k : ℕ). value_at prefix_cmp (get_or tables k no_tables).adjin prefix) (sym index) in
+    o_is
+    ∙ ap (λ (x : Tables). value_at prefix_cmp x.adjin prefix) (t_is ∙ get_or_default tables i t no_tables inside)
+    ∙ ap (λ (k : ℕ). value_at prefix_cmp (get_or tables k no_tables).adjin prefix) (sym index) in
     let with_next : new ≡ with_one found (option_map (candidate_of config (side_of config sessions (1 + i))) o) =
-        is ∙ ap (λ (k : ℕ). with_one found (option_map (candidate_of config (side_of config sessions k)) o)) next in
+    is ∙ ap (λ (k : ℕ). with_one found (option_map (candidate_of config (side_of config sessions k)) o)) next in
     record {
       all = with_next
-        ∙ ap (λ (cs : List Candidate). with_one cs (option_map (candidate_of config (side_of config sessions (1 + i))) o))
+          ∙ ap (λ (cs : List Candidate). with_one cs (option_map (candidate_of config (side_of config sessions (1 + i))) o))
           so_far.all
-        ∙ ap (λ (x : Option Route). with_one (candidates_to config sessions tables prefix i)
+          ∙ ap (λ (x : Option Route). with_one (candidates_to config sessions tables prefix i)
           (option_map (candidate_of config (side_of config sessions (1 + i))) x)) there
-        ∙ sym (found_more config sessions (is_network config prefix) (sent_in tables prefix) i);
+          ∙ sym (found_more config sessions (is_network config prefix) (sent_in tables prefix) i);
       good = subst (AreGood config sessions (i + 1)) (sym with_next)
-        (one_more config sessions i found o kept (omega (arith, inside, count)) sound so_far.good);
+          (one_more config sessions i found o kept (omega (arith, inside, count)) sound so_far.good);
     }
 
 -- no candidate, no best route
@@ -104,7 +104,7 @@ number_within n [] i side all inside is = absurd (omega (arith, inside))
 number_within n (first ∷ others) i side all inside is =
     let cs : List Candidate = first ∷ others in
     let s : side ≡ (get_or cs i first).side =
-        subst (λ (o : Option Candidate). IfSome o (λ c. side ≡ c.side)) (slice_get-get_or cs i first inside) is in
+    subst (λ (o : Option Candidate). IfSome o (λ c. side ≡ c.side)) (slice_get-get_or cs i first inside) is in
     subst (λ (x : Side). x.number ≤ n) (sym s) (all i first inside)
 
 pub one_wins : (config : Config) (old new : Kept) (tables : List Tables) (sessions : List Owned) (prefix : Prefix)
@@ -119,14 +119,14 @@ pub one_wins : (config : Config) (old new : Kept) (tables : List Tables) (sessio
 one_wins config old new tables sessions prefix found i side number route b are count i_is inside engine manifest local
     side_is number_is route_is b_is =
     let b_all : b ≡ record { source = side.number; route = route } =
-        b_is ∙ ap (λ (n : ℕ). record { source = n; route = route }) number_is in
+    b_is ∙ ap (λ (n : ℕ). record { source = n; route = route }) number_is in
     let here : number ≤ length config.peers =
-        subst (λ (n : ℕ). n ≤ length config.peers) (sym number_is)
-        (subst (λ (n : ℕ). side.number ≤ n) count (number_within (length tables) found i side are.good.numbers inside side_is)) in
+    subst (λ (n : ℕ). n ≤ length config.peers) (sym number_is)
+    (subst (λ (n : ℕ). side.number ≤ n) count (number_within (length tables) found i side are.good.numbers inside side_is)) in
     record {
       best_is = ap Some b_all
-        ∙ chosen_is old.manifest old.local old.engine prefix found i side route i_is inside side_is route_is
-        ∙ ap (winner_of old.manifest old.local old.engine prefix) are.all;
+          ∙ chosen_is old.manifest old.local old.engine prefix found i side route i_is inside side_is route_is
+          ∙ ap (winner_of old.manifest old.local old.engine prefix) are.all;
       source = subst (λ (x : Chosen). x.source ≤ length config.peers) (sym b_is) here;
       engine = engine ∙ ap (λ (cs : List Candidate). (choose old.manifest old.local old.engine prefix cs).engine) are.all;
       manifest = manifest;
@@ -140,7 +140,7 @@ sound_at [] i route all inside is = absurd (omega (arith, inside))
 sound_at (first ∷ others) i route all inside is =
     let cs : List Candidate = first ∷ others in
     let r : route ≡ (get_or cs i first).route =
-        subst (λ (o : Option Candidate). IfSome o (λ c. route ≡ c.route)) (slice_get-get_or cs i first inside) is in
+    subst (λ (o : Option Candidate). IfSome o (λ c. route ≡ c.route)) (slice_get-get_or cs i first inside) is in
     subst IsSound (sym r) (all i first inside)
 
 -- the best routes with another best route of a prefix, or none
@@ -151,9 +151,10 @@ best_after best prefix (Some b) = with_value prefix_cmp best prefix b
 decided_routing : (setup : Setup) (sessions : List Owned) (t : Routed) (prefix : Prefix) (cs : List Candidate)
     → (decided setup sessions t prefix cs).routing ≡ record {
       best = best_after (t.routing).best prefix
-        (winner_of setup.manifest (setup.config).local (t.routing).engine prefix cs);
+          (winner_of setup.manifest (setup.config).local (t.routing).engine prefix cs);
       engine = (choose setup.manifest (setup.config).local (t.routing).engine prefix cs).engine;
-      tables = (t.routing).tables }
+      tables = (t.routing).tables;
+    }
 unfolding choose
 decided_routing setup sessions t prefix [] = refl
 decided_routing setup sessions t prefix (first ∷ others) = refl
@@ -178,11 +179,12 @@ unfolding decide
 decides a e best sessions prefix o ready all wins entries =
     let cs : List Candidate = candidates_in a.config sessions a.peers.items prefix in
     let same : (trace : Trace) → candidates (setup_of a) sessions (routed trace a) prefix ≡ cs =
-        λ trace. ap (candidates_to a.config sessions a.peers.items prefix) (all ∙ sym ready.count) in
+    λ trace. ap (candidates_to a.config sessions a.peers.items prefix) (all ∙ sym ready.count) in
     let from : Side → Routing = λ l. record {
-          best = best_after a.best.entries prefix (winner_of a.engine.manifest l a.engine.engine prefix cs);
-          engine = (choose a.engine.manifest l a.engine.engine prefix cs).engine;
-          tables = a.peers.items } in
+      best = best_after a.best.entries prefix (winner_of a.engine.manifest l a.engine.engine prefix cs);
+      engine = (choose a.engine.manifest l a.engine.engine prefix cs).engine;
+      tables = a.peers.items;
+    } in
     record {
       ready = record {
         few = ready.few;
@@ -190,7 +192,7 @@ decides a e best sessions prefix o ready all wins entries =
         own = ready.own;
         count = ready.count;
         sources = subst (AllByRecursion (λ e. e.1.source ≤ length a.config.peers)) (sym entries)
-          (all_sources (length a.config.peers) a.best.entries prefix o ready.sources wins.source);
+            (all_sources (length a.config.peers) a.best.entries prefix o ready.sources wins.source);
       };
       setup = ap (λ (m : Manifest). record { config = a.config; manifest = m }) wins.manifest;
       routing = λ trace.
@@ -198,9 +200,10 @@ decides a e best sessions prefix o ready all wins entries =
           ∙ decided_routing (setup_of a) sessions (routed trace a) prefix cs
           ∙ ap from (sym ready.local)
           ∙ ap (λ (b : List (Prefix × Chosen)). record {
-              best = b;
-              engine = (choose a.engine.manifest a.engine.local a.engine.engine prefix cs).engine;
-              tables = a.peers.items })
-            (ap (best_after a.best.entries prefix) (sym wins.best_is) ∙ sym entries)
+            best = b;
+            engine = (choose a.engine.manifest a.engine.local a.engine.engine prefix cs).engine;
+            tables = a.peers.items;
+          })
+          (ap (best_after a.best.entries prefix) (sym wins.best_is) ∙ sym entries)
           ∙ ap (λ (x : Engine). record { best = best.entries; engine = x; tables = a.peers.items }) (sym wins.engine);
     }

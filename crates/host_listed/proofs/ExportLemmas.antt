@@ -50,14 +50,14 @@ pub not_exported : (a : Core) (sessions : List Owned) (prefix : Prefix) (p : ℕ
 unfolding export
 not_exported a sessions prefix p s ready all least most is down =
     let off : is_up sessions p ≡ false =
-        ap (λ (x : Owned). is_established (x.session).state)
-          (sym (session_at sessions p s least (subst (λ (n : ℕ). p ≤ n) (sym all) most) is)) ∙ down in
+    ap (λ (x : Owned). is_established (x.session).state)
+    (sym (session_at sessions p s least (subst (λ (n : ℕ). p ≤ n) (sym all) most) is)) ∙ down in
     record {
       ready = ready;
       setup = refl;
       routing = λ trace.
           ap (λ (b : Bool). (if b then export_best (setup_of a) sessions (routed trace a) p prefix
-            (value_at prefix_cmp a.best.entries prefix) else routed trace a).routing) off;
+          (value_at prefix_cmp a.best.entries prefix) else routed trace a).routing) off;
     }
 
 abbrev pub adv_after : Sections → Prefix → Option (List ℕ) → Sections
@@ -66,7 +66,7 @@ adv_after adv prefix (Some section) = with_value prefix_cmp adv prefix section
 
 adv_routing : (t : Routed) (p : ℕ) (prefix : Prefix) (o : Option (List ℕ))
     → (set_adv t p prefix o).routing
-      ≡ with_tables t.routing p (record (at_tables t p) { adv = adv_after (at_tables t p).adv prefix o })
+    ≡ with_tables t.routing p (record (at_tables t p) { adv = adv_after (at_tables t p).adv prefix o })
 adv_routing t p prefix None = refl
 adv_routing t p prefix (Some section) = refl
 
@@ -92,23 +92,23 @@ lands : (a : Core) (e : Kept) (ts : Vec Tables Global) (x : List ℕ) (sessions 
     → e.manifest ≡ a.engine.manifest → e.local ≡ a.engine.local
     → ts.items ≡ slice_set a.peers.items (p - 1) (record tables { adv = adv_after tables.adv prefix o })
     → ((trace : Trace) → export (setup_of a) sessions prefix (routed trace a) p
-        ≡ set_adv (record { routing = record (routing_of a) { engine = e.engine }; trace = after trace }) p prefix o)
+    ≡ set_adv (record { routing = record (routing_of a) { engine = e.engine }; trace = after trace }) p prefix o)
     → Does (λ setup t. export setup sessions prefix t p) a (exported_core a e ts x)
 lands a e ts x sessions prefix p tables o after ready least most is manifest local items says =
     let same : tables ≡ slice_index_or a.peers.items (p - 1) no_tables =
-        tables_at a.peers.items p tables least (subst (λ (n : ℕ). p ≤ n) (sym ready.count) most) is in
+    tables_at a.peers.items p tables least (subst (λ (n : ℕ). p ≤ n) (sym ready.count) most) is in
     let moved : slice_set a.peers.items (p - 1)
-          (record (slice_index_or a.peers.items (p - 1) no_tables)
-            { adv = adv_after (slice_index_or a.peers.items (p - 1) no_tables).adv prefix o }) ≡ ts.items =
-        ap (λ (t : Tables). slice_set a.peers.items (p - 1) (record t { adv = adv_after t.adv prefix o })) (sym same)
-        ∙ sym items in
+    (record (slice_index_or a.peers.items (p - 1) no_tables)
+    { adv = adv_after (slice_index_or a.peers.items (p - 1) no_tables).adv prefix o }) ≡ ts.items =
+    ap (λ (t : Tables). slice_set a.peers.items (p - 1) (record t { adv = adv_after t.adv prefix o })) (sym same)
+    ∙ sym items in
     record {
       ready = record {
         few = ready.few;
         local = local ∙ ready.local;
         own = ready.own;
         count = ap length items
-          ∙ length-set a.peers.items (p - 1) (record tables { adv = adv_after tables.adv prefix o }) ∙ ready.count;
+            ∙ length-set a.peers.items (p - 1) (record tables { adv = adv_after tables.adv prefix o }) ∙ ready.count;
         sources = ready.sources;
       };
       setup = ap (λ (m : Manifest). record { config = a.config; manifest = m }) manifest;
@@ -123,14 +123,14 @@ when_up : (a : Core) (sessions : List Owned) (prefix : Prefix) (p : ℕ) (s : Ow
     → s ≡ slice_index_or sessions (p - 1) s → is_established (s.session).state ≡ true
     → value_at prefix_cmp a.best.entries prefix ≡ best
     → (trace : Trace) → export (setup_of a) sessions prefix (routed trace a) p
-      ≡ export_best (setup_of a) sessions (routed trace a) p prefix best
+    ≡ export_best (setup_of a) sessions (routed trace a) p prefix best
 unfolding export
 when_up a sessions prefix p s best all least most is up found trace =
     let on : is_up sessions p ≡ true =
-        ap (λ (x : Owned). is_established (x.session).state)
-          (sym (session_at sessions p s least (subst (λ (n : ℕ). p ≤ n) (sym all) most) is)) ∙ up in
+    ap (λ (x : Owned). is_established (x.session).state)
+    (sym (session_at sessions p s least (subst (λ (n : ℕ). p ≤ n) (sym all) most) is)) ∙ up in
     ap (λ (b : Bool). if b then export_best (setup_of a) sessions (routed trace a) p prefix
-      (value_at prefix_cmp a.best.entries prefix) else routed trace a) on
+    (value_at prefix_cmp a.best.entries prefix) else routed trace a) on
     ∙ ap (export_best (setup_of a) sessions (routed trace a) p prefix) found
 
 -- a prefix without a best route is no longer advertised
@@ -170,20 +170,24 @@ exports a e ts x sessions prefix p tables s w b number route to from wide o read
     number_is route_is to_is from_is w_is wide_is section engine manifest local is items =
     let g : Exported = gives_for a to wide from prefix route in
     let wide_at : wide ≡ is_wide sessions p =
-        wide_is ∙ ap (λ (y : Owned). (y.session).wide)
-          (session_at sessions p w least (subst (λ (n : ℕ). p ≤ n) (sym all) most) w_is) in
+    wide_is ∙ ap (λ (y : Owned). (y.session).wide)
+    (session_at sessions p w least (subst (λ (n : ℕ). p ≤ n) (sym all) most) w_is) in
     let given : gives_for a (side_of a.config sessions p) (is_wide sessions p) (side_of a.config sessions b.source) prefix
-          b.route ≡ g =
-        ap (λ (y : Side). gives_for a y (is_wide sessions p) (side_of a.config sessions b.source) prefix b.route) (sym to_is)
-        ∙ ap (λ (y : Bool). gives_for a to y (side_of a.config sessions b.source) prefix b.route) (sym wide_at)
-        ∙ ap (λ (y : Side). gives_for a to wide y prefix b.route)
-          (ap (side_of a.config sessions) (sym number_is) ∙ sym from_is)
-        ∙ ap (gives_for a to wide from prefix) (sym route_is) in
+    b.route ≡ g =
+    ap (λ (y : Side). gives_for a y (is_wide sessions p) (side_of a.config sessions b.source) prefix b.route) (sym to_is)
+    ∙ ap (λ (y : Bool). gives_for a to y (side_of a.config sessions b.source) prefix b.route) (sym wide_at)
+    ∙ ap (λ (y : Side). gives_for a to wide y prefix b.route)
+    (ap (side_of a.config sessions) (sym number_is) ∙ sym from_is)
+    ∙ ap (gives_for a to wide from prefix) (sym route_is) in
     lands a e ts x sessions prefix p tables o (λ trace. trace ++ g.trace) ready least most is manifest local items
     (λ trace.
-      when_up a sessions prefix p s (Some b) all least most s_is up found trace
-      ∙ ap (λ (y : Exported). advertise (setup_of a) sessions (routed trace a) p prefix y) given
-      ∙ ap (λ (y : Option (List ℕ)). set_adv (record {
-          routing = record (routing_of a) { engine = g.engine }; trace = trace ++ g.trace }) p prefix y) section
-      ∙ ap (λ (y : Engine). set_adv (record {
-          routing = record (routing_of a) { engine = y }; trace = trace ++ g.trace }) p prefix o) (sym engine))
+    when_up a sessions prefix p s (Some b) all least most s_is up found trace
+    ∙ ap (λ (y : Exported). advertise (setup_of a) sessions (routed trace a) p prefix y) given
+    ∙ ap (λ (y : Option (List ℕ)). set_adv (record {
+      routing = record (routing_of a) { engine = g.engine };
+      trace = trace ++ g.trace;
+    }) p prefix y) section
+    ∙ ap (λ (y : Engine). set_adv (record {
+      routing = record (routing_of a) { engine = y };
+      trace = trace ++ g.trace;
+    }) p prefix o) (sym engine))

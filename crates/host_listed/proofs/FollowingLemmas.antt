@@ -28,7 +28,7 @@ does_then f g a b c one two = record {
   routing = λ trace.
       let after : Routed = f (setup_of a) (routed trace a) in
       let met : after ≡ routed after.trace b =
-          ap (λ (x : Routing). record { routing = x; trace = after.trace }) (one.routing trace) in
+      ap (λ (x : Routing). record { routing = x; trace = after.trace }) (one.routing trace) in
       ap (λ (t : Routed). (g (setup_of a) t).routing) met
       ∙ ap (λ (s : Setup). (g s (routed after.trace b)).routing) (sym one.setup)
       ∙ two.routing after.trace;
@@ -52,8 +52,8 @@ does_more g f n p a b c is so_far d =
     does_same (λ setup t. f setup (fold (f setup) (g setup t) (range_with_len 1 n)) p)
     (λ setup t. fold (f setup) (g setup t) (range_with_len 1 (n + 1))) a c
     (λ trace. sym (ap (λ l. fold (f (setup_of a)) (g (setup_of a) (routed trace a)) l) (range_with_len-more 1 n)
-      ∙ fold_push (f (setup_of a)) (g (setup_of a) (routed trace a)) (range_with_len 1 n) (1 + n)
-      ∙ ap (f (setup_of a) (fold (f (setup_of a)) (g (setup_of a) (routed trace a)) (range_with_len 1 n))) next))
+    ∙ fold_push (f (setup_of a)) (g (setup_of a) (routed trace a)) (range_with_len 1 n) (1 + n)
+    ∙ ap (f (setup_of a) (fold (f (setup_of a)) (g (setup_of a) (routed trace a)) (range_with_len 1 n))) next))
     (does_then (λ setup t. fold (f setup) (g setup t) (range_with_len 1 n)) (λ setup t. f setup t p) a b c so_far d)
 
 -- what is left of a list of steps, with the first of them

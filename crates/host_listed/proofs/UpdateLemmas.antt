@@ -44,7 +44,11 @@ taken_core a e ts received route = record a { engine = e; peers = ts; received =
 ready_taken : (a : Core) (e : Kept) (ts : Vec Tables Global) (received route : Edited) → IsReady a
     → e.local ≡ a.engine.local → length ts.items ≡ length a.peers.items → IsReady (taken_core a e ts received route)
 ready_taken a e ts received route ready local count = record {
-  few = ready.few; local = local ∙ ready.local; own = ready.own; count = count ∙ ready.count; sources = ready.sources;
+  few = ready.few;
+  local = local ∙ ready.local;
+  own = ready.own;
+  count = count ∙ ready.count;
+  sources = ready.sources;
 }
 
 -- the routes of a peer become others
@@ -52,10 +56,10 @@ moved : (a : Core) (p : ℕ) (tables : Tables) (routes : Routes → Routes) (ts 
     → p ≤ length a.config.peers → tables ≡ get_or a.peers.items (p - 1) tables
     → ts.items ≡ slice_set a.peers.items (p - 1) (record tables { adjin = routes tables.adjin })
     → slice_set a.peers.items (p - 1) (record (slice_index_or a.peers.items (p - 1) no_tables)
-        { adjin = routes (slice_index_or a.peers.items (p - 1) no_tables).adjin }) ≡ ts.items
+    { adjin = routes (slice_index_or a.peers.items (p - 1) no_tables).adjin }) ≡ ts.items
 moved a p tables routes ts ready least most is items =
     ap (λ (t : Tables). slice_set a.peers.items (p - 1) (record t { adjin = routes t.adjin }))
-      (sym (tables_at a.peers.items p tables least (subst (λ (n : ℕ). p ≤ n) (sym ready.count) most) is))
+    (sym (tables_at a.peers.items p tables least (subst (λ (n : ℕ). p ≤ n) (sym ready.count) most) is))
     ∙ sym items
 
 count_set : (a : Core) (p : ℕ) (t : Tables) (ts : Vec Tables Global) → ts.items ≡ slice_set a.peers.items (p - 1) t
@@ -69,10 +73,10 @@ pub drops : (a : Core) (ts : Vec Tables Global) (sessions : List Owned) (p : ℕ
     → Does (λ setup t. drop_all setup sessions t p ps) a (tables_core a ts)
 drops a ts sessions p tables ps ready least most is items = record {
   ready = ready_taken a a.engine ts a.received a.route ready refl
-    (count_set a p (record tables { adjin = without_all tables.adjin ps }) ts items);
+      (count_set a p (record tables { adjin = without_all tables.adjin ps }) ts items);
   setup = refl;
   routing = λ trace. ap (λ (l : List Tables). record { best = a.best.entries; engine = a.engine.engine; tables = l })
-    (moved a p tables (λ r. without_all r ps) ts ready least most is items);
+      (moved a p tables (λ r. without_all r ps) ts ready least most is items);
 }
 
 -- withdrawn prefixes that are not announced as well leave it
@@ -81,17 +85,18 @@ pub withdraws : (a : Core) (ts : Vec Tables Global) (sessions : List Owned) (p :
     → IsReady a → 1 ≤ p → p ≤ length a.config.peers → tables ≡ get_or a.peers.items (p - 1) tables
     → u.withdrawn ≡ withdrawn → u.nlri ≡ nlri
     → filter (λ w. not (has_key prefix_cmp set w)) (prefixes withdrawn)
-      ≡ filter (λ w. not (list_any (same_prefix w) (prefixes nlri))) (prefixes withdrawn)
+    ≡ filter (λ w. not (list_any (same_prefix w) (prefixes nlri))) (prefixes withdrawn)
     → ts.items ≡ slice_set a.peers.items (p - 1) (record tables {
-        adjin = without_all tables.adjin (filter (λ w. not (has_key prefix_cmp set w)) (prefixes withdrawn)) })
+      adjin = without_all tables.adjin (filter (λ w. not (has_key prefix_cmp set w)) (prefixes withdrawn));
+    })
     → Does (λ setup t. withdraw setup sessions t p u) a (tables_core a ts)
 unfolding withdraw
 withdraws a ts sessions p tables u withdrawn nlri set ready least most is withdrawn_is nlri_is same items =
     let ps : List Prefix = filter (λ w. not (has_key prefix_cmp set w)) (prefixes withdrawn) in
     let named : ps ≡ filter (λ w. not (list_any (same_prefix w) (prefixes u.nlri))) (prefixes u.withdrawn) =
-        same
-        ∙ ap (λ (n : List ℕ). filter (λ w. not (list_any (same_prefix w) (prefixes n))) (prefixes withdrawn)) (sym nlri_is)
-        ∙ ap (λ (n : List ℕ). filter (λ w. not (list_any (same_prefix w) (prefixes u.nlri))) (prefixes n)) (sym withdrawn_is) in
+    same
+    ∙ ap (λ (n : List ℕ). filter (λ w. not (list_any (same_prefix w) (prefixes n))) (prefixes withdrawn)) (sym nlri_is)
+    ∙ ap (λ (n : List ℕ). filter (λ w. not (list_any (same_prefix w) (prefixes u.nlri))) (prefixes n)) (sym withdrawn_is) in
     does_same (λ setup t. drop_all setup sessions t p ps) (λ setup t. withdraw setup sessions t p u) a (tables_core a ts)
     (λ trace. ap (drop_all (setup_of a) sessions (routed trace a) p) named)
     (drops a ts sessions p tables ps ready least most is items)
@@ -99,7 +104,7 @@ withdraws a ts sessions p tables u withdrawn nlri set ready least most is withdr
 -- the set of the announced prefixes tells which withdrawn ones are announced as well
 pub others_same : (withdrawn nlri : List ℕ) (set : List Prefix) → set ≡ set_of prefix_cmp (prefixes nlri)
     → filter (λ w. not (has_key prefix_cmp set w)) (prefixes withdrawn)
-      ≡ filter (λ w. not (list_any (same_prefix w) (prefixes nlri))) (prefixes withdrawn)
+    ≡ filter (λ w. not (list_any (same_prefix w) (prefixes nlri))) (prefixes withdrawn)
 others_same withdrawn nlri set is =
     filter-same (λ w. not (has_key prefix_cmp set w)) (λ w. not (list_any (same_prefix w) (prefixes nlri)))
     (prefixes withdrawn)
@@ -120,7 +125,7 @@ are_there (b ∷ s) first others some = rw (eqb-suc-zero (length s)) refl
 -- nothing is withdrawn
 pub none_same : (withdrawn nlri : List ℕ) (set : List Prefix) → prefixes withdrawn ≡ []
     → filter (λ w. not (has_key prefix_cmp set w)) (prefixes withdrawn)
-      ≡ filter (λ w. not (list_any (same_prefix w) (prefixes nlri))) (prefixes withdrawn)
+    ≡ filter (λ w. not (list_any (same_prefix w) (prefixes nlri))) (prefixes withdrawn)
 none_same withdrawn nlri set none =
     ap (filter (λ w. not (has_key prefix_cmp set w))) none
     ∙ sym (ap (filter (λ w. not (list_any (same_prefix w) (prefixes nlri)))) none)
@@ -132,8 +137,8 @@ routes_after false routes prefix route = without prefix_cmp routes prefix
 
 announced_routing : (b : Bool) (t : Routed) (p : ℕ) (prefix : Prefix) (route : Route)
     → (if b then set_routes t p (with_value prefix_cmp (at_tables t p).adjin prefix route)
-       else set_routes t p (without prefix_cmp (at_tables t p).adjin prefix)).routing
-      ≡ (set_routes t p (routes_after b (at_tables t p).adjin prefix route)).routing
+    else set_routes t p (without prefix_cmp (at_tables t p).adjin prefix)).routing
+    ≡ (set_routes t p (routes_after b (at_tables t p).adjin prefix route)).routing
 announced_routing true t p prefix route = refl
 announced_routing false t p prefix route = refl
 
@@ -153,32 +158,36 @@ announces_one a e ts copy after sessions now p side own prefix tables o native b
     let local : Side = a.config.local in
     let c : Called = inbound a.engine.manifest local a.engine.engine now (side_of a.config sessions p) prefix a.received.route in
     let same : inbound a.engine.manifest a.engine.local a.engine.engine now side prefix copy.route ≡ c =
-        ap (λ (l : Side). inbound a.engine.manifest l a.engine.engine now side prefix copy.route) ready.local
-        ∙ ap (λ (s : Side). inbound a.engine.manifest local a.engine.engine now s prefix copy.route) side_is
-        ∙ ap (inbound a.engine.manifest local a.engine.engine now (side_of a.config sessions p) prefix) copy_is in
+    ap (λ (l : Side). inbound a.engine.manifest l a.engine.engine now side prefix copy.route) ready.local
+    ∙ ap (λ (s : Side). inbound a.engine.manifest local a.engine.engine now s prefix copy.route) side_is
+    ∙ ap (inbound a.engine.manifest local a.engine.engine now (side_of a.config sessions p) prefix) copy_is in
     let route_is : after.route ≡ c.route = answers.route ∙ ap (λ (x : Called). x.route) same in
     let engine_is : e ≡ record a.engine { engine = c.engine; wrote = c.wrote } =
-        answers.after ∙ ap (λ (x : Called). record a.engine { engine = x.engine; wrote = x.wrote }) same in
+    answers.after ∙ ap (λ (x : Called). record a.engine { engine = x.engine; wrote = x.wrote }) same in
     let accepts : b ≡ accepted c.outcome (accepts_inbound c.route local) =
-        b_is
-        ∙ ap (λ (x : Outcome). accepted x native) (answers.outcome ∙ ap (λ (x : Called). x.outcome) same)
-        ∙ ap (accepted c.outcome) (native_is ∙ ap (accepts_inbound after.route) own_is
-          ∙ ap (λ (r : Route). accepts_inbound r local) route_is) in
+    b_is
+    ∙ ap (λ (x : Outcome). accepted x native) (answers.outcome ∙ ap (λ (x : Called). x.outcome) same)
+    ∙ ap (accepted c.outcome) (native_is ∙ ap (accepts_inbound after.route) own_is
+    ∙ ap (λ (r : Route). accepts_inbound r local) route_is) in
     record {
       ready = ready_taken a e ts a.received after ready (ap (λ (k : Kept). k.local) engine_is)
-        (count_set a p (record tables { adjin = routes_after b tables.adjin prefix after.route }) ts items);
+          (count_set a p (record tables { adjin = routes_after b tables.adjin prefix after.route }) ts items);
       setup = ap (λ (k : Kept). record { config = a.config; manifest = k.manifest }) engine_is;
       routing = λ trace.
           let u : Routed = ran (routed trace a) Inbound c in
           announced_routing (accepted c.outcome (accepts_inbound c.route local)) u p prefix c.route
           ∙ ap (λ (x : Bool). (set_routes u p (routes_after x (at_tables u p).adjin prefix c.route)).routing) (sym accepts)
           ∙ ap (λ (r : Route). (set_routes u p (routes_after b (at_tables u p).adjin prefix r)).routing) (sym route_is)
-          ∙ ap (λ (x : Engine). record { best = a.best.entries; engine = x;
-              tables = slice_set a.peers.items (p - 1) (record (slice_index_or a.peers.items (p - 1) no_tables) {
-                adjin = routes_after b (slice_index_or a.peers.items (p - 1) no_tables).adjin prefix after.route }) })
-            (sym (ap (λ (k : Kept). k.engine) engine_is))
+          ∙ ap (λ (x : Engine). record {
+            best = a.best.entries;
+            engine = x;
+            tables = slice_set a.peers.items (p - 1) (record (slice_index_or a.peers.items (p - 1) no_tables) {
+              adjin = routes_after b (slice_index_or a.peers.items (p - 1) no_tables).adjin prefix after.route;
+            });
+          })
+          (sym (ap (λ (k : Kept). k.engine) engine_is))
           ∙ ap (λ (l : List Tables). record { best = a.best.entries; engine = e.engine; tables = l })
-            (moved a p tables (λ r. routes_after b r prefix after.route) ts ready least most is items);
+          (moved a p tables (λ r. routes_after b r prefix after.route) ts ready least most is items);
     }
 
 -- ---- receive
@@ -191,24 +200,25 @@ received : (a : Core) (e : Kept) (sessions : List Owned) (now p : ℕ) (side : S
     → IsReady a → side ≡ side_of a.config sessions p
     → Answers (receive a.engine.manifest a.engine.local a.engine.engine now side a.received.route body) a.engine e o after.route
     → let c = receive a.engine.manifest a.config.local a.engine.engine now (side_of a.config sessions p) a.received.route body in
-      (o ≡ c.outcome) × (after.route ≡ c.route) × Does (λ setup t. ran t Receive
-        (receive setup.manifest (setup.config).local (t.routing).engine now (side_of setup.config sessions p) a.received.route body))
-        a (received_core a e after)
+    (o ≡ c.outcome) × (after.route ≡ c.route) × Does (λ setup t. ran t Receive
+    (receive setup.manifest (setup.config).local (t.routing).engine now (side_of setup.config sessions p) a.received.route body))
+    a (received_core a e after)
 received a e sessions now p side body after o ready side_is answers =
     let c : Called = receive a.engine.manifest a.config.local a.engine.engine now (side_of a.config sessions p) a.received.route body in
     let same : receive a.engine.manifest a.engine.local a.engine.engine now side a.received.route body ≡ c =
-        ap (λ (l : Side). receive a.engine.manifest l a.engine.engine now side a.received.route body) ready.local
-        ∙ ap (λ (s : Side). receive a.engine.manifest a.config.local a.engine.engine now s a.received.route body) side_is in
+    ap (λ (l : Side). receive a.engine.manifest l a.engine.engine now side a.received.route body) ready.local
+    ∙ ap (λ (s : Side). receive a.engine.manifest a.config.local a.engine.engine now s a.received.route body) side_is in
     let engine_is : e ≡ record a.engine { engine = c.engine; wrote = c.wrote } =
-        answers.after ∙ ap (λ (x : Called). record a.engine { engine = x.engine; wrote = x.wrote }) same in
-    (answers.outcome ∙ ap (λ (x : Called). x.outcome) same,
-     answers.route ∙ ap (λ (x : Called). x.route) same,
-     record {
-       ready = ready_taken a e a.peers after a.route ready (ap (λ (k : Kept). k.local) engine_is) refl;
-       setup = ap (λ (k : Kept). record { config = a.config; manifest = k.manifest }) engine_is;
-       routing = λ trace. ap (λ (x : Engine). record { best = a.best.entries; engine = x; tables = a.peers.items })
-         (sym (ap (λ (k : Kept). k.engine) engine_is));
-     })
+    answers.after ∙ ap (λ (x : Called). record a.engine { engine = x.engine; wrote = x.wrote }) same in (
+      answers.outcome ∙ ap (λ (x : Called). x.outcome) same,
+      answers.route ∙ ap (λ (x : Called). x.route) same,
+      record {
+        ready = ready_taken a e a.peers after a.route ready (ap (λ (k : Kept). k.local) engine_is) refl;
+        setup = ap (λ (k : Kept). record { config = a.config; manifest = k.manifest }) engine_is;
+        routing = λ trace. ap (λ (x : Engine). record { best = a.best.entries; engine = x; tables = a.peers.items })
+            (sym (ap (λ (k : Kept). k.engine) engine_is));
+      },
+    )
 
 -- receive keeps the announced prefixes
 pub receives : (a : Core) (e : Kept) (b : Core) (sessions : List Owned) (now p : ℕ) (side : Side) (body : List ℕ)
@@ -223,19 +233,19 @@ receives a e b sessions now p side body ps after o ready side_is answers accepts
     let c : Called = receive a.engine.manifest a.config.local a.engine.engine now (side_of a.config sessions p) a.received.route body in
     let r = received a e sessions now p side body after o ready side_is answers in
     let both : Does (λ setup t. fold (announce_one setup sessions now after.route p) (ran t Receive
-          (receive setup.manifest (setup.config).local (t.routing).engine now (side_of setup.config sessions p) a.received.route body)) ps) a b =
-        does_then (λ setup t. ran t Receive
-            (receive setup.manifest (setup.config).local (t.routing).engine now (side_of setup.config sessions p) a.received.route body))
-          (λ setup t. fold (announce_one setup sessions now after.route p) t ps) a (received_core a e after) b r.2 rest in
+    (receive setup.manifest (setup.config).local (t.routing).engine now (side_of setup.config sessions p) a.received.route body)) ps) a b =
+    does_then (λ setup t. ran t Receive
+    (receive setup.manifest (setup.config).local (t.routing).engine now (side_of setup.config sessions p) a.received.route body))
+    (λ setup t. fold (announce_one setup sessions now after.route p) t ps) a (received_core a e after) b r.2 rest in
     let yes : true ≡ accepted c.outcome true = accepts ∙ ap (λ (x : Outcome). accepted x true) r.0 in
     does_same (λ setup t. fold (announce_one setup sessions now after.route p) (ran t Receive
-        (receive setup.manifest (setup.config).local (t.routing).engine now (side_of setup.config sessions p) a.received.route body)) ps)
-      (λ setup t. receive_route setup sessions now t p body ps a.received.route) a b
+    (receive setup.manifest (setup.config).local (t.routing).engine now (side_of setup.config sessions p) a.received.route body)) ps)
+    (λ setup t. receive_route setup sessions now t p body ps a.received.route) a b
     (λ trace.
-      let v : Routed = ran (routed trace a) Receive c in
-      ap (λ (x : Route). fold (announce_one (setup_of a) sessions now x p) v ps) r.1
-      ∙ ap (λ (x : Bool). if x then fold (announce_one (setup_of a) sessions now c.route p) v ps
-          else drop_all (setup_of a) sessions v p ps) yes)
+    let v : Routed = ran (routed trace a) Receive c in
+    ap (λ (x : Route). fold (announce_one (setup_of a) sessions now x p) v ps) r.1
+    ∙ ap (λ (x : Bool). if x then fold (announce_one (setup_of a) sessions now c.route p) v ps
+    else drop_all (setup_of a) sessions v p ps) yes)
     both
 
 -- receive drops them
@@ -251,18 +261,18 @@ receives_not a e b sessions now p side body ps after o ready side_is answers acc
     let c : Called = receive a.engine.manifest a.config.local a.engine.engine now (side_of a.config sessions p) a.received.route body in
     let r = received a e sessions now p side body after o ready side_is answers in
     let both : Does (λ setup t. drop_all setup sessions (ran t Receive
-          (receive setup.manifest (setup.config).local (t.routing).engine now (side_of setup.config sessions p) a.received.route body)) p ps) a b =
-        does_then (λ setup t. ran t Receive
-            (receive setup.manifest (setup.config).local (t.routing).engine now (side_of setup.config sessions p) a.received.route body))
-          (λ setup t. drop_all setup sessions t p ps) a (received_core a e after) b r.2 rest in
+    (receive setup.manifest (setup.config).local (t.routing).engine now (side_of setup.config sessions p) a.received.route body)) p ps) a b =
+    does_then (λ setup t. ran t Receive
+    (receive setup.manifest (setup.config).local (t.routing).engine now (side_of setup.config sessions p) a.received.route body))
+    (λ setup t. drop_all setup sessions t p ps) a (received_core a e after) b r.2 rest in
     let is_not : false ≡ accepted c.outcome true = accepts ∙ ap (λ (x : Outcome). accepted x true) r.0 in
     does_same (λ setup t. drop_all setup sessions (ran t Receive
-        (receive setup.manifest (setup.config).local (t.routing).engine now (side_of setup.config sessions p) a.received.route body)) p ps)
-      (λ setup t. receive_route setup sessions now t p body ps a.received.route) a b
+    (receive setup.manifest (setup.config).local (t.routing).engine now (side_of setup.config sessions p) a.received.route body)) p ps)
+    (λ setup t. receive_route setup sessions now t p body ps a.received.route) a b
     (λ trace.
-      let v : Routed = ran (routed trace a) Receive c in
-      ap (λ (x : Bool). if x then fold (announce_one (setup_of a) sessions now c.route p) v ps
-          else drop_all (setup_of a) sessions v p ps) is_not)
+    let v : Routed = ran (routed trace a) Receive c in
+    ap (λ (x : Bool). if x then fold (announce_one (setup_of a) sessions now c.route p) v ps
+    else drop_all (setup_of a) sessions v p ps) is_not)
     both
 
 -- ---- announce
@@ -284,11 +294,11 @@ announces a received b sessions now p body section u ps section_is fits route_is
   setup = d.setup;
   routing = λ trace.
       let go : List ℕ → Routing = λ s.
-          (receive_if (setup_of a) sessions (nat_le (length (canon (route_in (setup_of a) sessions p s))) MAX_MESSAGE) now
-            (routed trace a) p body ps (route_in (setup_of a) sessions p s)).routing in
+      (receive_if (setup_of a) sessions (nat_le (length (canon (route_in (setup_of a) sessions p s))) MAX_MESSAGE) now
+      (routed trace a) p body ps (route_in (setup_of a) sessions p s)).routing in
       ap go section_is
       ∙ ap (λ (x : Bool). (receive_if (setup_of a) sessions x now (routed trace a) p body ps
-          (route_in (setup_of a) sessions p section)).routing) fits
+      (route_in (setup_of a) sessions p section)).routing) fits
       ∙ ap (λ (r : Route). (receive_route (setup_of a) sessions now (routed trace a) p body ps r).routing) (sym route_is)
       ∙ d.routing trace;
 }
@@ -304,11 +314,11 @@ announces_not a received b sessions now p body section u ps section_is fits d = 
   setup = d.setup;
   routing = λ trace.
       let go : List ℕ → Routing = λ s.
-          (receive_if (setup_of a) sessions (nat_le (length (canon (route_in (setup_of a) sessions p s))) MAX_MESSAGE) now
-            (routed trace a) p body ps (route_in (setup_of a) sessions p s)).routing in
+      (receive_if (setup_of a) sessions (nat_le (length (canon (route_in (setup_of a) sessions p s))) MAX_MESSAGE) now
+      (routed trace a) p body ps (route_in (setup_of a) sessions p s)).routing in
       ap go section_is
       ∙ ap (λ (x : Bool). (receive_if (setup_of a) sessions x now (routed trace a) p body ps
-          (route_in (setup_of a) sessions p section)).routing) fits
+      (route_in (setup_of a) sessions p section)).routing) fits
       ∙ d.routing trace;
 }
 
@@ -321,7 +331,7 @@ pub some_routes : (a b c : Core) (sessions : List Owned) (now p : ℕ) (body : L
     → Does (λ setup t. routes_of setup sessions now t p body u ps) a c
 some_routes a b c sessions now p body u first others ps is one two =
     let both : Does (λ setup t. withdraw setup sessions (announce setup sessions now t p body u ps) p u) a c =
-        does_then (λ setup t. announce setup sessions now t p body u ps) (λ setup t. withdraw setup sessions t p u) a b c one two in
+    does_then (λ setup t. announce setup sessions now t p body u ps) (λ setup t. withdraw setup sessions t p u) a b c one two in
     subst (λ (l : List Prefix). Does (λ setup t. routes_of setup sessions now t p body u l) a c) (sym is)
     (subst (λ (l : List Prefix). Does (λ setup t. withdraw setup sessions (announce setup sessions now t p body u l) p u) a c) is both)
 
@@ -341,11 +351,11 @@ pub then_settled : (a c d : Core) (sessions : List Owned) (now p : ℕ) (body : 
 unfolding update settle_all
 then_settled a c d sessions now p body u set u_is set_is one two =
     let both : Does (λ setup t. fold (settle setup sessions) (routes_of setup sessions now t p body u (prefixes u.nlri)) set) a d =
-        does_then (λ setup t. routes_of setup sessions now t p body u (prefixes u.nlri))
-          (λ setup t. fold (settle setup sessions) t set) a c d one two in
+    does_then (λ setup t. routes_of setup sessions now t p body u (prefixes u.nlri))
+    (λ setup t. fold (settle setup sessions) t set) a c d one two in
     let named : Does (λ setup t. settle_all setup sessions (routes_of setup sessions now t p body u (prefixes u.nlri))
-          (prefixes u.withdrawn ++ prefixes u.nlri)) a d =
-        subst (λ (l : List Prefix). Does (λ setup t. fold (settle setup sessions)
-          (routes_of setup sessions now t p body u (prefixes u.nlri)) l) a d) set_is both in
+    (prefixes u.withdrawn ++ prefixes u.nlri)) a d =
+    subst (λ (l : List Prefix). Does (λ setup t. fold (settle setup sessions)
+    (routes_of setup sessions now t p body u (prefixes u.nlri)) l) a d) set_is both in
     subst (λ (x : Update). Does (λ setup t. settle_all setup sessions (routes_of setup sessions now t p body x (prefixes x.nlri))
-      (prefixes x.withdrawn ++ prefixes x.nlri)) a d) u_is named
+    (prefixes x.withdrawn ++ prefixes x.nlri)) a d) u_is named

@@ -48,7 +48,7 @@ module _ {X : Type 0} (es : List (Prefix × X)) (rising : IsRising prefix_cmp es
       → keys_of (entries_after prefix_cmp es after) ≡ []
   walked_all after is =
       ap keys_of (entries_after-none prefix_cmp prefix_total es after
-        (no_key (entry_after prefix_cmp es after) is))
+      (no_key (entry_after prefix_cmp es after) is))
 
 -- one key more of a set that is finished by others
 pub one_key : (set new ks rest all : List Prefix) (p : Prefix) → ks ≡ p ∷ rest → new ≡ with_key prefix_cmp set p
@@ -79,7 +79,7 @@ pub known_then : (ts : List Tables) (i : ℕ) (t : Tables) (set new all : List P
 known_then ts i t set new all inside is new_is so_far =
     let rest : List Prefix = flat_map known_of (drop (i + 1) ts) in
     let here : flat_map known_of (drop i ts) ≡ known_of t ++ rest =
-        at_drop_more (flat_map known_of) ts i t inside ∙ ap (λ (x : Tables). known_of x ++ rest) (sym is) in
+    at_drop_more (flat_map known_of) ts i t inside ∙ ap (λ (x : Tables). known_of x ++ rest) (sym is) in
     ap (λ (s : List Prefix). with_keys prefix_cmp s rest) new_is
     ∙ sym (keys_then set (known_of t) rest)
     ∙ sym (ap (with_keys prefix_cmp set) here)
@@ -90,7 +90,7 @@ pub known_first : (ns start new ks : List Prefix) → start ≡ [] → new ≡ w
     → with_keys prefix_cmp new ks ≡ set_of prefix_cmp (ns ++ ks)
 known_first ns start new ks none new_is =
     ap (λ (s : List Prefix). with_keys prefix_cmp s ks)
-      (new_is ∙ ap (λ (s : List Prefix). with_keys prefix_cmp s ns) none)
+    (new_is ∙ ap (λ (s : List Prefix). with_keys prefix_cmp s ns) none)
     ∙ sym (keys_then [] ns ks)
 
 -- after all peers
@@ -109,7 +109,7 @@ loses a b c sessions p t set t_is set_is one two =
     does_same (λ setup u. fold (settle setup sessions) (set_tables u p no_tables) set)
     (λ setup u. lose setup sessions u p) a c
     (λ trace. ap (fold (settle (setup_of a) sessions) (set_tables (routed trace a) p no_tables))
-      (set_is ∙ ap (λ (x : Tables). set_of prefix_cmp (keys_of x.adjin)) t_is))
+    (set_is ∙ ap (λ (x : Tables). set_of prefix_cmp (keys_of x.adjin)) t_is))
     (does_then (λ setup u. set_tables u p no_tables) (λ setup u. fold (settle setup sessions) u set) a b c one two)
 
 -- each known prefix is settled

@@ -161,10 +161,7 @@ impl Core {
 }
 
 // The prefixes that have a best route, by rising order.
-fn prefixes_of(
-    alloc: Global,
-    best: &BTreeMap<Prefix, Best>,
-) -> Result<Vec<Prefix>, AllocError>
+fn prefixes_of(alloc: Global, best: &BTreeMap<Prefix, Best>) -> Result<Vec<Prefix>, AllocError>
     ensures { IfOk result (λ v. v.items ≡ keys_of best.now.entries) }
 {
     best.keys().copied().collect(alloc)

@@ -98,7 +98,10 @@ impl Core {
         let outcome = self
             .engine
             .inbound(u64::from(now), side, prefix, &mut self.route);
-        if accepts(&outcome, inbound_native(&self.route, &local_of(&self.config))) {
+        if accepts(
+            &outcome,
+            inbound_native(&self.route, &local_of(&self.config)),
+        ) {
             self.peers[i].put(prefix, &self.route)
         } else {
             self.peers[i].remove(prefix);

@@ -95,15 +95,15 @@ one_more config sessions n cs (Some r) is most sound good =
       few = omega (arith, good.few, length_push cs c);
       sound = All-push (λ x. IsSound x.route) cs c good.sound sound;
       apart = all_pairs_push (λ a b. (a.rank).address ≢ (b.rank).address) cs c good.apart
-        (λ k d inside same. let w = good.sides k d inside in
+          (λ k d inside same. let w = good.sides k d inside in
           addresses_differ config sessions w.0 (1 + n) is (omega (arith, w.1)) most
           (sym (w.3 ∙ ap (λ (s : Side). s.address) w.2) ∙ same));
       numbers = All-push (λ x. (x.side).number ≤ n + 1) cs c
-        (λ i d inside. let b = good.numbers i d inside in omega (arith, b))
-        (omega (arith, number_peer config sessions n));
+          (λ i d inside. let b = good.numbers i d inside in omega (arith, b))
+          (omega (arith, number_peer config sessions n));
       sides = All-push (OfSide config sessions (n + 1)) cs c
-        (λ i d inside. let w = good.sides i d inside in (w.0, omega (arith, w.1), w.2, w.3))
-        (1 + n, omega arith, refl, refl);
+          (λ i d inside. let w = good.sides i d inside in (w.0, omega (arith, w.1), w.2, w.3))
+          (1 + n, omega arith, refl, refl);
     }
 
 -- no candidates
@@ -126,7 +126,7 @@ own_good config sessions is own =
       few = omega arith;
       sound = All-push (λ x. IsSound x.route) [] c none.sound own;
       apart = all_pairs_push (λ a b. (a.rank).address ≢ (b.rank).address) [] c none.apart
-        (λ k d inside. absurd (omega (arith, inside)));
+          (λ k d inside. absurd (omega (arith, inside)));
       numbers = All-push (λ x. (x.side).number ≤ 0) [] c none.numbers (omega (arith, is.speaker.0));
       sides = All-push (OfSide config sessions 0) [] c none.sides (0, omega arith, refl, refl);
     }

@@ -27,23 +27,23 @@ pub passes : (config : Config) (old new : Kept) (peer source : Side) (prefix : P
     → Answers (outbound old.manifest old.local old.engine peer source prefix best carried) old new o left
     → native ≡ accepts_outbound source peer → passed ≡ accepted o native → IsRoute left → HasNoFault left
     → Passes
-      (outbound old.manifest config.local old.engine peer source prefix best
-        (carry best source peer config.local config.local_pref))
-      (accepts_outbound source peer) old new left passed
+    (outbound old.manifest config.local old.engine peer source prefix best
+    (carry best source peer config.local config.local_pref))
+    (accepts_outbound source peer) old new left passed
 passes config old new peer source prefix best loaded carried left o own pref native passed
     local own_is pref_is loaded_is carried_is answers native_is passed_is shape faultless =
     let by : Side → Route → Called = λ l r. outbound old.manifest l old.engine peer source prefix best r in
     let route_is : carried ≡ carry best source peer config.local config.local_pref =
-        carried_is
-        ∙ ap (λ (r : Route). carry r source peer own pref) loaded_is
-        ∙ ap (λ (l : Side). carry best source peer l pref) own_is
-        ∙ ap (carry best source peer config.local) pref_is in
+    carried_is
+    ∙ ap (λ (r : Route). carry r source peer own pref) loaded_is
+    ∙ ap (λ (l : Side). carry best source peer l pref) own_is
+    ∙ ap (carry best source peer config.local) pref_is in
     let same : by old.local carried ≡ by config.local (carry best source peer config.local config.local_pref) =
-        ap (λ (l : Side). by l carried) local ∙ ap (by config.local) route_is in
+    ap (λ (l : Side). by l carried) local ∙ ap (by config.local) route_is in
     record {
       accepted = passed_is
-        ∙ ap (λ (x : Outcome). accepted x native) (answers.outcome ∙ ap (λ (c : Called). c.outcome) same)
-        ∙ ap (accepted (by config.local (carry best source peer config.local config.local_pref)).outcome) native_is;
+          ∙ ap (λ (x : Outcome). accepted x native) (answers.outcome ∙ ap (λ (c : Called). c.outcome) same)
+          ∙ ap (accepted (by config.local (carry best source peer config.local config.local_pref)).outcome) native_is;
       route = answers.route ∙ ap (λ (c : Called). c.route) same;
       after = answers.after ∙ ap (λ (c : Called). record old { engine = c.engine; wrote = c.wrote }) same;
       shape = shape;
@@ -54,15 +54,15 @@ passes config old new peer source prefix best loaded carried left o own pref nat
 pub not_passed : (old new : Kept) (local : Side) (default : ℕ) (peer : Side) (wide : Bool) (source : Side)
     (prefix : Prefix) (best left : Route) (octets : List ℕ)
     → Passes (outbound old.manifest local old.engine peer source prefix best (carry best source peer local default))
-      (accepts_outbound source peer) old new left false
+    (accepts_outbound source peer) old new left false
     → Exports (exported old.manifest local default old.engine peer wide source prefix best) old new false octets
 unfolding exported
 not_passed old new local default peer wide source prefix best left octets p =
     let c : Called = outbound old.manifest local old.engine peer source prefix best (carry best source peer local default) in
     subst (λ (b : Bool). Exports
-        (if b then encoded_for old.manifest local c.engine peer wide source best c.route ((Outbound, c.outcome) ∷ [])
-        else record { section = None; engine = c.engine; trace = (Outbound, c.outcome) ∷ [] })
-        old new false octets) p.accepted
+    (if b then encoded_for old.manifest local c.engine peer wide source best c.route ((Outbound, c.outcome) ∷ [])
+    else record { section = None; engine = c.engine; trace = (Outbound, c.outcome) ∷ [] })
+    old new false octets) p.accepted
     (record {
       section = refl;
       engine = ap (λ (k : Kept). k.engine) p.after;
@@ -75,31 +75,31 @@ pub then_encoded : (old mid new : Kept) (local : Side) (default : ℕ) (peer : S
     (prefix : Prefix) (best left : Route) (sent : Bool) (octets : List ℕ)
     → old.local ≡ local
     → Passes (outbound old.manifest local old.engine peer source prefix best (carry best source peer local default))
-      (accepts_outbound source peer) old mid left true
+    (accepts_outbound source peer) old mid left true
     → ((trace : Trace) → Exports (encoded_for mid.manifest mid.local mid.engine peer wide source best left trace)
-        mid new sent octets)
+    mid new sent octets)
     → Exports (exported old.manifest local default old.engine peer wide source prefix best) old new sent octets
 unfolding exported
 then_encoded old mid new local default peer wide source prefix best left sent octets local_is p encodes =
     let c : Called = outbound old.manifest local old.engine peer source prefix best (carry best source peer local default) in
     let runs : Trace = (Outbound, c.outcome) ∷ [] in
     let d : Exports (encoded_for mid.manifest mid.local mid.engine peer wide source best left runs) mid new sent octets =
-        encodes runs in
+    encodes runs in
     let manifest : mid.manifest ≡ old.manifest = ap (λ (k : Kept). k.manifest) p.after in
     let here : mid.local ≡ local = ap (λ (k : Kept). k.local) p.after ∙ local_is in
     let engine : mid.engine ≡ c.engine = ap (λ (k : Kept). k.engine) p.after in
     let same : encoded_for mid.manifest mid.local mid.engine peer wide source best left runs
-          ≡ encoded_for old.manifest local c.engine peer wide source best c.route runs =
-        ap (λ m. encoded_for m mid.local mid.engine peer wide source best left runs) manifest
-        ∙ ap (λ l. encoded_for old.manifest l mid.engine peer wide source best left runs) here
-        ∙ ap (λ e. encoded_for old.manifest local e peer wide source best left runs) engine
-        ∙ ap (λ r. encoded_for old.manifest local c.engine peer wide source best r runs) p.route in
+    ≡ encoded_for old.manifest local c.engine peer wide source best c.route runs =
+    ap (λ m. encoded_for m mid.local mid.engine peer wide source best left runs) manifest
+    ∙ ap (λ l. encoded_for old.manifest l mid.engine peer wide source best left runs) here
+    ∙ ap (λ e. encoded_for old.manifest local e peer wide source best left runs) engine
+    ∙ ap (λ r. encoded_for old.manifest local c.engine peer wide source best r runs) p.route in
     let e : Exports (encoded_for old.manifest local c.engine peer wide source best c.route runs) mid new sent octets =
-        subst (λ (x : Exported). Exports x mid new sent octets) same d in
+    subst (λ (x : Exported). Exports x mid new sent octets) same d in
     subst (λ (b : Bool). Exports
-        (if b then encoded_for old.manifest local c.engine peer wide source best c.route runs
-        else record { section = None; engine = c.engine; trace = runs })
-        old new sent octets) p.accepted
+    (if b then encoded_for old.manifest local c.engine peer wide source best c.route runs
+    else record { section = None; engine = c.engine; trace = runs })
+    old new sent octets) p.accepted
     (record {
       section = e.section;
       engine = e.engine;

@@ -37,9 +37,9 @@ pub given_faultless : (c : Called) (route : Route) (o : Outcome) (given native r
     → result ≡ given_or o given native → HasNoFault (route_of result)
 given_faultless c route o given native result o_is given_is sendable native_is is none result_is =
     let all : result ≡ given_or c.outcome (section_left c) (native_section route) =
-        result_is
-        ∙ ap (λ (x : Outcome). given_or x given native) o_is
-        ∙ ap (λ (s : List ℕ). given_or c.outcome s native) given_is
-        ∙ ap (given_or c.outcome (section_left c)) native_is in
+    result_is
+    ∙ ap (λ (x : Outcome). given_or x given native) o_is
+    ∙ ap (λ (s : List ℕ). given_or c.outcome s native) given_is
+    ∙ ap (given_or c.outcome (section_left c)) native_is in
     subst (λ (s : List ℕ). HasNoFault (route_of s)) (sym all)
     (by_outcome c.outcome c.route c.buffer (native_section route) sendable (HasNoFault-native_section route is none))

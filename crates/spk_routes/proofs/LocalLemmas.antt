@@ -35,7 +35,7 @@ and_right false b e = absurd (cc e)
 host_below : (first : ℕ) → is_host first ≡ true → first < 256
 host_below first is =
     let below : nat_lt first 224 ≡ true =
-        and_right (not (first == 0) && not (first == 127)) (nat_lt first 224) is in
+    and_right (not (first == 0) && not (first == 127)) (nat_lt first 224) is in
     omega (arith, ltb-true first 224 below)
 
 fault_if-not : (fine : Bool) (fault : AttrFault) → fine ≡ true → fault_if (not fine) fault ≡ None

@@ -23,7 +23,7 @@ rising_from [] r rising = rising
 rising_from (a ∷ attrs) r rising =
     rising_from attrs (with_attribute r (attr_code a) (attr_flags a) (attr_value a))
     (IsRising-with_value nat_cmp nat_cmp_total r (attr_code a)
-      (record { flags = kept_flags (attr_flags a); value = attr_value a }) rising)
+    (record { flags = kept_flags (attr_flags a); value = attr_value a }) rising)
 
 rising_none : IsRising {X = Attribute} nat_cmp []
 unfolding IsStrictlySortedBy

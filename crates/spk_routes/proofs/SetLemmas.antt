@@ -52,11 +52,11 @@ module _ {K : Type 0} (c : K → K → Ordering) (o : IsTotalOrder c) where
   has_key-with_key (x ∷ xs) k q = by_ordering (c k x)
       (λ l. rw l refl)
       (λ e.
-        let eq = eq_by_cmp_equiv o in
-        let same : is_at (c q) k ≡ is_at (c q) x = eq.symm q k ∙ eq.congr k x q (ap is_eq e) ∙ eq.symm x q in
-        rw (e, same) (or_same (is_at (c q) x) (has_key c xs q)))
+      let eq = eq_by_cmp_equiv o in
+      let same : is_at (c q) k ≡ is_at (c q) x = eq.symm q k ∙ eq.congr k x q (ap is_eq e) ∙ eq.symm x q in
+      rw (e, same) (or_same (is_at (c q) x) (has_key c xs q)))
       (λ g. rw g (ap (λ b. is_at (c q) x || b) (has_key-with_key xs k q)
-        ∙ or_swap (is_at (c q) x) (is_at (c q) k) (has_key c xs q)))
+      ∙ or_swap (is_at (c q) x) (is_at (c q) k) (has_key c xs q)))
 
   -- keys more
   has_key-with_keys : (ks set : List K) (q : K)

@@ -20,7 +20,8 @@ abbrev pub candidate_of : Config → Side → Route → Candidate
 candidate_of config side route = record {
   route = route;
   side = side;
-  rank = rank route side config.local_pref (cost_of config (next_hop route)) }
+  rank = rank route side config.local_pref (cost_of config (next_hop route));
+}
 
 -- the candidates of a prefix that is a local network or not, by what each of the first n peers sent of it
 abbrev pub found_in : Config → List Owned → Bool → (ℕ → Option Route) → ℕ → List Candidate

@@ -121,7 +121,13 @@ fn pass_outbound<R: RouteView>(
 {
     route.load(best);
     see_shape(route);
-    export_attrs(route, source, peer, &local_of(config), local_pref_of(config));
+    export_attrs(
+        route,
+        source,
+        peer,
+        &local_of(config),
+        local_pref_of(config),
+    );
     let outcome = engine.outbound(peer, source, prefix, best, route);
     see_shape(route);
     accepts(&outcome, outbound_native(source, peer))

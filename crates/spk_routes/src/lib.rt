@@ -1,14 +1,14 @@
 //! What the routes' halves of both hosts share: all that is done to one route, however it is kept.
 //!
-//! A received section becomes a route by `read_route`, with AS numbers in four octets; `Contenders` shows the candidates
-//! of a prefix to the decision, over any kind of view, and borrows their routes; `Exporter` makes of a best route the
-//! section that a peer is advertised, through the programs at outbound and encode, with buffers that it takes once. A
-//! `PrefixSet` holds the prefixes that an UPDATE names until they are decided, and `EachPrefix` walks over prefixes that
-//! were judged. Who takes part in a route, and what the configuration says of it, is in `sides`.
+//! A received section becomes a route by `read_route`, with AS numbers in four octets. `Contenders` shows the
+//! candidates of a prefix to the decision, over any kind of view, and borrows their routes. `Exporter` makes of a best
+//! route the section that a peer is advertised, through the programs at outbound and encode, with buffers that it takes
+//! once. A `PrefixSet` holds the prefixes that an UPDATE names until they are decided, and `EachPrefix` walks over
+//! prefixes that were judged. Who takes part in a route, and what the configuration says of it, is in `sides`.
 //!
 //! A host keeps sound routes alone (`specs/Sound`): the mandatory attributes are there, none is malformed, and the
-//! canonical section fits a message. Received routes are sound, and programs leave them sound; so deciding and exporting
-//! need no condition that a host would have to test.
+//! canonical section fits a message. Received routes are sound, and programs leave them sound; so deciding and
+//! exporting need no condition that a host would have to test.
 #![tactic(auto)]
 
 mod contenders;

@@ -19,20 +19,20 @@ peers-init c =
     let all : Contenders Route → List Candidate = shown (λ r. r) in
     elim c.if-is_network.branch [
       | then-is_network+in_ok-add w ↦ record {
-          found = found_first a.config.now a.sessions.now a.peers.now a.prefix true (all c.if-is_network.found) kept
+        found = found_first a.config.now a.sessions.now a.peers.now a.prefix true (all c.if-is_network.found) kept
             (local_sound a.config.now kept) w.if-is_network.ensures
             (ap all w.found-is
-              ∙ w.in_ok-add.ensures.ok
-              ∙ ap (λ (l : List Candidate). l ++ candidate_of a.config.now c.local_of-local.result w.route.result.now ∷ [])
-                c.make-found.ensures
-              ∙ ap (λ (s : Side). candidate_of a.config.now s w.route.result.now ∷ []) c.local_of-local.ensures.value
-              ∙ ap (λ (r : Route). candidate_of a.config.now a.config.now.local r ∷ [])
-                (w.route.ensures.value ∙ ap (λ (b : Chosen). b.route) c.requires.own));
-        }
+            ∙ w.in_ok-add.ensures.ok
+            ∙ ap (λ (l : List Candidate). l ++ candidate_of a.config.now c.local_of-local.result w.route.result.now ∷ [])
+            c.make-found.ensures
+            ∙ ap (λ (s : Side). candidate_of a.config.now s w.route.result.now ∷ []) c.local_of-local.ensures.value
+            ∙ ap (λ (r : Route). candidate_of a.config.now a.config.now.local r ∷ [])
+            (w.route.ensures.value ∙ ap (λ (b : Chosen). b.route) c.requires.own));
+      }
       | else-is_network w ↦ record {
-          found = found_first a.config.now a.sessions.now a.peers.now a.prefix false (all c.if-is_network.found) kept
+        found = found_first a.config.now a.sessions.now a.peers.now a.prefix false (all c.if-is_network.found) kept
             (local_sound a.config.now kept) w.if-is_network.ensures (ap all w.found-is ∙ c.make-found.ensures);
-        }
+      }
     ]
 
 pub peers-preserved : goal.peers-preserved
@@ -42,25 +42,25 @@ peers-preserved c =
     let all : Contenders Route → List Candidate = shown (λ r. r) in
     elim c.match-route.branch [
       | in-Some+in_ok-add-2 w ↦ record {
-          found = found_then a.config.now a.sessions.now a.peers.now a.prefix c.peers.i c.index-peers-i.result
+        found = found_then a.config.now a.sessions.now a.peers.now a.prefix c.peers.i c.index-peers-i.result
             (all c.peers.found) (all c.match-route.found) (Some w.in-Some.route.now) kept c.requires.count
             c.peers-test.true c.index-peers-i.is w.in-Some.ensures.value w.in-Some.ensures.sound
             c.peers.invariant.found
             (ap all w.found-is
-              ∙ w.in_ok-add-2.ensures.ok
-              ∙ ap (λ (s : Side). all c.peers.found ++ candidate_of a.config.now s w.in-Some.route.now ∷ [])
-                w.side_of.ensures);
-        }
+            ∙ w.in_ok-add-2.ensures.ok
+            ∙ ap (λ (s : Side). all c.peers.found ++ candidate_of a.config.now s w.in-Some.route.now ∷ [])
+            w.side_of.ensures);
+      }
       | in_default w ↦ record {
-          found = found_then a.config.now a.sessions.now a.peers.now a.prefix c.peers.i c.index-peers-i.result
+        found = found_then a.config.now a.sessions.now a.peers.now a.prefix c.peers.i c.index-peers-i.result
             (all c.peers.found) (all c.match-route.found) None kept c.requires.count
             c.peers-test.true c.index-peers-i.is w.in_default.ensures.value tt c.peers.invariant.found
             (ap all w.found-is);
-        }
+      }
     ]
 
 pub returns : goal.returns
 returns c =
     let e : c.peers.i ≡ length c.args.peers.now = omega arith in
     subst (λ (n : ℕ). AreFound c.args.config.now c.args.sessions.now c.args.peers.now c.args.prefix n
-      (shown (λ r. r) c.peers.found)) e c.peers.invariant.found
+    (shown (λ r. r) c.peers.found)) e c.peers.invariant.found

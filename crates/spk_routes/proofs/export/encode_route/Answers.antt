@@ -8,8 +8,8 @@ pub write_form-requires-clause-faultless : goal.write_form-requires-clause-fault
 write_form-requires-clause-faultless g c =
     let e = c.args.engine.now in
     let left : Called =
-        encode e.manifest e.local e.engine c.args.peer.now c.args.source.now (g.R.RouteView.route c.args.best.now)
-        c.args.route.now.route in
+    encode e.manifest e.local e.engine c.args.peer.now c.args.source.now (g.R.RouteView.route c.args.best.now)
+    c.args.route.now.route in
     given_faultless left c.args.route.now.route c.encode-outcome.result c.as_slice-2.result.now
     c.as_slice-3.result.now c.given_section-section.result.now
     c.encode-outcome.ensures.answers.outcome

@@ -23,9 +23,9 @@ returns g c =
     c.outbound-outcome.ensures.answers c.outbound_native.ensures c.accepts.ensures
     c.see_shape-2.ensures
     (c.outbound-outcome.ensures.keeps.faultless
-      (subst HasNoFault (sym carried)
-        (HasNoFault-carry c.load.new.self.route c.args.source.now c.args.peer.now c.local_of.result
-          c.local_pref_of.result (IsFormed-IsRoute c.load.new.self.route c.see_shape.ensures)
-          (subst HasNoFault (sym loaded) c.requires.sound.faultless)
-          (subst (λ (s : Side). IsTrue (is_host_address s.address)) (sym c.local_of.ensures.value)
-            c.local_of.ensures.kept.address))))
+    (subst HasNoFault (sym carried)
+    (HasNoFault-carry c.load.new.self.route c.args.source.now c.args.peer.now c.local_of.result
+    c.local_pref_of.result (IsFormed-IsRoute c.load.new.self.route c.see_shape.ensures)
+    (subst HasNoFault (sym loaded) c.requires.sound.faultless)
+    (subst (λ (s : Side). IsTrue (is_host_address s.address)) (sym c.local_of.ensures.value)
+    c.local_of.ensures.kept.address))))

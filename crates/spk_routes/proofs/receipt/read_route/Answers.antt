@@ -12,5 +12,5 @@ widen_route-requires c =
     let w = width_of c.args.wide in
     subst (IsFaultless w)
     (sym (ap (λ (e : Edited). e.route) c.drop_local_pref.ensures
-      ∙ ap (λ (e : Edited). as_received c.args.peer.now e.route) c.read.ensures))
+    ∙ ap (λ (e : Edited). as_received c.args.peer.now e.route) c.read.ensures))
     (faultless-as_received w c.args.peer.now c.args.section.now c.requires.faultless)

@@ -15,7 +15,7 @@ invariant-prefixes l = record {
   comes : (end : Core)
       → Does (λ setup t. fold (announce_one setup l.sessions l.now l.fn.self.received.route l.peer) t l.rest) l.self end
       → Does (λ setup t. fold (announce_one setup l.sessions l.now l.fn.self.received.route l.peer) t (prefixes l.nlri))
-        l.fn.self end;
+      l.fn.self end;
 }
 
 abbrev pub decreases-prefixes : goal.decreases-prefixes

@@ -17,15 +17,15 @@ returns-then-accepts-clause-does c =
     let p = c.args.peer in
     on_ok_weaker c.put.result
     (λ e. announces_one a c.inbound-outcome.new.self (with_item a.peers (p - 1) c.put.new.self) c.load.new.self
-      c.inbound-outcome.new.route c.args.sessions.now c.args.now p c.args.side.now c.local_of.result c.args.prefix
-      c.index_mut.result.now c.inbound-outcome.result c.inbound_native.result true
-      c.requires.ready c.requires.least c.requires.most c.requires.side
-      (ap (λ (x : Edited). x.route) c.load.ensures)
-      (subst (λ (n : ℕ). Answers (inbound a.engine.manifest a.engine.local a.engine.engine n c.args.side.now
-        c.args.prefix c.load.new.self.route) a.engine c.inbound-outcome.new.self c.inbound-outcome.result
-        c.inbound-outcome.new.route.route) c.from.ensures c.inbound-outcome.ensures.answers)
-      c.local_of.ensures.value c.inbound_native.ensures c.if-accepts.ensures c.index_mut.ensures.value
-      (ap (λ (x : Tables). slice_set a.peers.items (p - 1) x) e))
+    c.inbound-outcome.new.route c.args.sessions.now c.args.now p c.args.side.now c.local_of.result c.args.prefix
+    c.index_mut.result.now c.inbound-outcome.result c.inbound_native.result true
+    c.requires.ready c.requires.least c.requires.most c.requires.side
+    (ap (λ (x : Edited). x.route) c.load.ensures)
+    (subst (λ (n : ℕ). Answers (inbound a.engine.manifest a.engine.local a.engine.engine n c.args.side.now
+    c.args.prefix c.load.new.self.route) a.engine c.inbound-outcome.new.self c.inbound-outcome.result
+    c.inbound-outcome.new.route.route) c.from.ensures c.inbound-outcome.ensures.answers)
+    c.local_of.ensures.value c.inbound_native.ensures c.if-accepts.ensures c.index_mut.ensures.value
+    (ap (λ (x : Tables). slice_set a.peers.items (p - 1) x) e))
     c.put.ensures.ok
 
 pub returns-else-accepts-clause-does : goal.returns-else-accepts-clause-does
@@ -38,8 +38,8 @@ returns-else-accepts-clause-does c =
     c.requires.ready c.requires.least c.requires.most c.requires.side
     (ap (λ (x : Edited). x.route) c.load.ensures)
     (subst (λ (n : ℕ). Answers (inbound a.engine.manifest a.engine.local a.engine.engine n c.args.side.now
-      c.args.prefix c.load.new.self.route) a.engine c.inbound-outcome.new.self c.inbound-outcome.result
-      c.inbound-outcome.new.route.route) c.from.ensures c.inbound-outcome.ensures.answers)
+    c.args.prefix c.load.new.self.route) a.engine c.inbound-outcome.new.self c.inbound-outcome.result
+    c.inbound-outcome.new.route.route) c.from.ensures c.inbound-outcome.ensures.answers)
     c.local_of.ensures.value c.inbound_native.ensures c.if-accepts.ensures c.index_mut-else-accepts.ensures.value
     (ap (λ (x : Tables). slice_set a.peers.items (p - 1) x) c.remove.ensures)
 

@@ -16,7 +16,8 @@ returns-in_err-winner c =
       local = c.in_err-winner.ensures ∙ r.local;
       own = r.own;
       count = r.count;
-      sources = r.sources })
+      sources = r.sources;
+    })
     c.from_residual.ensures.0
 
 pub returns-in_err-insert-in-Some : goal.returns-in_err-insert-in-Some
@@ -29,7 +30,8 @@ returns-in_err-insert-in-Some c =
       own = r.own;
       count = r.count;
       sources = subst (AllByRecursion (λ (e : Prefix × Chosen). e.1.source ≤ length (c.args.self.now.config).peers))
-        (sym c.in_err-insert-in-Some.ensures.err) r.sources })
+          (sym c.in_err-insert-in-Some.ensures.err) r.sources;
+    })
     c.from_residual-in_err-insert-in-Some.ensures.0
 
 pub returns-in-None : goal.returns-in-None
@@ -38,9 +40,9 @@ returns-in-None c =
     decides a c.winner.new.engine c.remove.new.self c.args.sessions.now c.args.prefix None c.requires.ready
     c.requires.all
     (subst (λ (o : Option Chosen). IsWinner a.config a.engine c.winner.new.engine a.peers.items c.args.sessions.now
-        c.args.prefix o) c.in-None.is
-      (subst (λ (ts : List Tables). IsWinner a.config a.engine c.winner.new.engine ts c.args.sessions.now
-        c.args.prefix c.in_ok-winner.field-0) c.deref.ensures.value c.in_ok-winner.ensures))
+    c.args.prefix o) c.in-None.is
+    (subst (λ (ts : List Tables). IsWinner a.config a.engine c.winner.new.engine ts c.args.sessions.now
+    c.args.prefix c.in_ok-winner.field-0) c.deref.ensures.value c.in_ok-winner.ensures))
     c.remove.ensures.entries
 
 pub returns-in_ok-insert-in-Some : goal.returns-in_ok-insert-in-Some
@@ -49,7 +51,7 @@ returns-in_ok-insert-in-Some c =
     decides a c.winner.new.engine c.insert.new.self c.args.sessions.now c.args.prefix (Some c.in-Some.best)
     c.requires.ready c.requires.all
     (subst (λ (o : Option Chosen). IsWinner a.config a.engine c.winner.new.engine a.peers.items c.args.sessions.now
-        c.args.prefix o) c.in-Some.is
-      (subst (λ (ts : List Tables). IsWinner a.config a.engine c.winner.new.engine ts c.args.sessions.now
-        c.args.prefix c.in_ok-winner.field-0) c.deref.ensures.value c.in_ok-winner.ensures))
+    c.args.prefix o) c.in-Some.is
+    (subst (λ (ts : List Tables). IsWinner a.config a.engine c.winner.new.engine ts c.args.sessions.now
+    c.args.prefix c.in_ok-winner.field-0) c.deref.ensures.value c.in_ok-winner.ensures))
     c.in_ok-insert-in-Some.ensures.entries

@@ -32,18 +32,18 @@ returns-then-export c =
     let p = c.args.peer in
     goes_ok c.advertise.result _ a _
     (λ e. exports a c.export.new.engine (with_item a.peers (p - 1) c.advertise.new.self) c.export.new.self
-      c.args.sessions.now c.args.prefix p c.index_mut-then-export.result.now c.index-sessions-i.result
-      c.index-sessions-i-2.result c.in-Some.best.now c.source.result c.route.result.now c.side_of-to.result
-      c.side_of-from.result c.wide.result (Some c.section.result.now)
-      c.requires.ready c.requires.all c.requires.least c.requires.most c.index-sessions-i.is
-      (sym c.is_up.ensures ∙ c.if-not-is_up.false) (sym c.in-Some.ensures.value) c.source.ensures
-      c.route.ensures.value c.side_of-to.ensures c.side_of-from.ensures c.index-sessions-i-2.is c.wide.ensures
-      (c.if-export.ensures.section.0 ∙ ap Some (sym c.section.ensures)) c.if-export.ensures.engine
-      c.if-export.ensures.manifest c.if-export.ensures.local
-      c.index_mut-then-export.ensures.value
-      (ap (λ (x : Tables). slice_set a.peers.items (p - 1) x) e))
+    c.args.sessions.now c.args.prefix p c.index_mut-then-export.result.now c.index-sessions-i.result
+    c.index-sessions-i-2.result c.in-Some.best.now c.source.result c.route.result.now c.side_of-to.result
+    c.side_of-from.result c.wide.result (Some c.section.result.now)
+    c.requires.ready c.requires.all c.requires.least c.requires.most c.index-sessions-i.is
+    (sym c.is_up.ensures ∙ c.if-not-is_up.false) (sym c.in-Some.ensures.value) c.source.ensures
+    c.route.ensures.value c.side_of-to.ensures c.side_of-from.ensures c.index-sessions-i-2.is c.wide.ensures
+    (c.if-export.ensures.section.0 ∙ ap Some (sym c.section.ensures)) c.if-export.ensures.engine
+    c.if-export.ensures.manifest c.if-export.ensures.local
+    c.index_mut-then-export.ensures.value
+    (ap (λ (x : Tables). slice_set a.peers.items (p - 1) x) e))
     (ready_exported a c.export.new.engine (with_item a.peers (p - 1) c.advertise.new.self) c.export.new.self p
-      c.advertise.new.self c.requires.ready c.if-export.ensures.local refl)
+    c.advertise.new.self c.requires.ready c.if-export.ensures.local refl)
     c.advertise.ensures.ok
 
 pub returns-else-export : goal.returns-else-export

@@ -11,6 +11,6 @@ invariant-prefixes l = record {
   peers : length l.self.config.peers ≡ length l.fn.self.config.peers;
   comes : (end : Core)
       → Does (λ setup t. fold (λ u q. export setup l.sessions q u l.peer) t (drop l.prefix-index l.prefix-items))
-        l.self end
+      l.self end
       → Does (λ setup t. fold (λ u q. export setup l.sessions q u l.peer) t l.prefix-items) l.fn.self end;
 }

@@ -11,12 +11,12 @@ returns-then-accepts c =
     let a = c.args.self.now in
     goes_weaker c.announce_each.result _ _ a _ _
     (λ d. receives a c.receive-outcome.new.self c.announce_each.new.self c.args.sessions.now c.args.now c.args.peer
-      c.args.side.now c.args.body.now (prefixes c.args.nlri.now) c.receive-outcome.new.route c.receive-outcome.result
-      c.requires.ready c.requires.side
-      (subst (λ (n : ℕ). Answers (receive a.engine.manifest a.engine.local a.engine.engine n c.args.side.now
-        a.received.route c.args.body.now) a.engine c.receive-outcome.new.self c.receive-outcome.result
-        c.receive-outcome.new.route.route) c.from.ensures c.receive-outcome.ensures.answers)
-      c.if-accepts.ensures d)
+    c.args.side.now c.args.body.now (prefixes c.args.nlri.now) c.receive-outcome.new.route c.receive-outcome.result
+    c.requires.ready c.requires.side
+    (subst (λ (n : ℕ). Answers (receive a.engine.manifest a.engine.local a.engine.engine n c.args.side.now
+    a.received.route c.args.body.now) a.engine c.receive-outcome.new.self c.receive-outcome.result
+    c.receive-outcome.new.route.route) c.from.ensures c.receive-outcome.ensures.answers)
+    c.if-accepts.ensures d)
     c.announce_each.ensures
 
 pub returns : goal.returns
@@ -26,6 +26,6 @@ returns c =
     c.args.side.now c.args.body.now (prefixes c.args.nlri.now) c.receive-outcome.new.route c.receive-outcome.result
     c.requires.ready c.requires.side
     (subst (λ (n : ℕ). Answers (receive a.engine.manifest a.engine.local a.engine.engine n c.args.side.now
-      a.received.route c.args.body.now) a.engine c.receive-outcome.new.self c.receive-outcome.result
-      c.receive-outcome.new.route.route) c.from.ensures c.receive-outcome.ensures.answers)
+    a.received.route c.args.body.now) a.engine c.receive-outcome.new.self c.receive-outcome.result
+    c.receive-outcome.new.route.route) c.from.ensures c.receive-outcome.ensures.answers)
     c.if-accepts.ensures c.drop_all.ensures

@@ -11,7 +11,7 @@ returns c =
     let a = c.args.self.now in
     goes_weaker c.settle_set.result _ _ a a c.settle_set.new.self
     (λ d. rescans a c.settle_set.new.self c.args.sessions.now c.in_ok-prefixes.prefixes
-      (c.in_ok-prefixes.ensures
-        ∙ ap (λ (ts : List Tables). set_of prefix_cmp (a.config.networks ++ flat_map known_of ts)) c.deref.ensures.value)
-      d)
+    (c.in_ok-prefixes.ensures
+    ∙ ap (λ (ts : List Tables). set_of prefix_cmp (a.config.networks ++ flat_map known_of ts)) c.deref.ensures.value)
+    d)
     c.settle_set.ensures

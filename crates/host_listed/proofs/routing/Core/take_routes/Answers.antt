@@ -15,9 +15,9 @@ returns-in_default c =
     let a = c.args in
     goes_match c.withdraw.result _ a.self.now c.withdraw.new.self
     (λ d. none_routes a.self.now c.withdraw.new.self a.sessions.now a.now a.peer a.body.now a.parts.now
-      (prefixes a.parts.now.nlri)
-      (ap prefixes (sym c.nlri.ensures) ∙ sym c.new-announced.ensures ∙ c.in_default.ensures.end.0)
-      (d a.parts.now (sym c.withdrawn.ensures) (sym c.nlri-in_default.ensures)))
+    (prefixes a.parts.now.nlri)
+    (ap prefixes (sym c.nlri.ensures) ∙ sym c.new-announced.ensures ∙ c.in_default.ensures.end.0)
+    (d a.parts.now (sym c.withdrawn.ensures) (sym c.nlri-in_default.ensures)))
     c.withdraw.ensures
 
 pub announce-requires-clause-good : goal.announce-requires-clause-good
@@ -26,9 +26,9 @@ announce-requires-clause-good c =
     let w : ℕ = width_of (is_wide a.sessions.now a.peer) in
     subst (λ (s : List ℕ). judge_section w s true ≡ None) (sym c.section.ensures)
     (subst (λ (b : Bool). judge_section w a.parts.now.section b ≡ None)
-      (are_there a.parts.now.nlri _ c.next.new.self
-        (ap prefixes (sym c.nlri.ensures) ∙ sym c.new-announced.ensures ∙ c.in-Some.ensures.first))
-      c.requires.good)
+    (are_there a.parts.now.nlri _ c.next.new.self
+    (ap prefixes (sym c.nlri.ensures) ∙ sym c.new-announced.ensures ∙ c.in-Some.ensures.first))
+    c.requires.good)
 
 pub withdraw-requires-2-clause-ready : goal.withdraw-requires-2-clause-ready
 withdraw-requires-2-clause-ready c = (c.in_ok-announce.ensures c.args.parts.now (sym c.section.ensures)).ready
@@ -37,7 +37,7 @@ pub withdraw-requires-2-clause-most : goal.withdraw-requires-2-clause-most
 withdraw-requires-2-clause-most c =
     subst (λ (n : ℕ). c.args.peer ≤ n)
     (sym (does_peers _ c.args.self.now c.announce.new.self
-      (c.in_ok-announce.ensures c.args.parts.now (sym c.section.ensures))))
+    (c.in_ok-announce.ensures c.args.parts.now (sym c.section.ensures))))
     c.requires.most
 
 pub returns : goal.returns
@@ -45,10 +45,10 @@ returns c =
     let a = c.args in
     goes_match c.withdraw-2.result _ a.self.now c.withdraw-2.new.self
     (λ d. some_routes a.self.now c.announce.new.self c.withdraw-2.new.self a.sessions.now a.now a.peer a.body.now
-      a.parts.now _ c.next.new.self (prefixes a.parts.now.nlri)
-      (ap prefixes (sym c.nlri.ensures) ∙ sym c.new-announced.ensures ∙ c.in-Some.ensures.first)
-      (subst (λ (s : List ℕ). Does (λ setup t. announce setup a.sessions.now a.now t a.peer a.body.now a.parts.now
-        (prefixes s)) a.self.now c.announce.new.self) c.nlri-2.ensures
-        (c.in_ok-announce.ensures a.parts.now (sym c.section.ensures)))
-      (d a.parts.now (sym c.withdrawn-2.ensures) (sym c.nlri-3.ensures)))
+    a.parts.now _ c.next.new.self (prefixes a.parts.now.nlri)
+    (ap prefixes (sym c.nlri.ensures) ∙ sym c.new-announced.ensures ∙ c.in-Some.ensures.first)
+    (subst (λ (s : List ℕ). Does (λ setup t. announce setup a.sessions.now a.now t a.peer a.body.now a.parts.now
+    (prefixes s)) a.self.now c.announce.new.self) c.nlri-2.ensures
+    (c.in_ok-announce.ensures a.parts.now (sym c.section.ensures)))
+    (d a.parts.now (sym c.withdrawn-2.ensures) (sym c.nlri-3.ensures)))
     c.withdraw-2.ensures
