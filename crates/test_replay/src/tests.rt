@@ -11,6 +11,9 @@ use xbgp_top::{Status, run};
 
 const WORDS: [&str; 5] = ["replay", "listed", "config", "-", "log"];
 
+// More octets than any report here has.
+const SINK_ROOM: usize = 65_536;
+
 fn words_of(alloc: Global) -> Result<Vec<String>, AllocError> {
     let mut owned = Vec::new(alloc);
     for word in &WORDS {
@@ -24,7 +27,7 @@ fn replay(alloc: Global, config: &str, log: &[u8]) -> Result<(Status, Vec<u8>), 
     let mut shelf = MemShelf::make(alloc)?;
     shelf.add("config", config.as_bytes())?;
     shelf.add("log", log)?;
-    let mut sink = MemSink::make(alloc, 1000)?;
+    let mut sink = MemSink::make(alloc, SINK_ROOM)?;
     let words = words_of(alloc)?;
     let status = run(alloc, &words, &mut shelf, &mut sink);
     Ok((status, Vec::from_slice(alloc, sink.taken())?))

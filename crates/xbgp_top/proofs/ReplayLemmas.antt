@@ -1,5 +1,5 @@
 -- How a setup that was not read, and the replay of a log, make a run.
-use Rattle.std.proofs.Common.{◌≡◌, ◌≢◌, ◌⊎◌, ℕ, List, [], Option, Some, None, Ok, Err}
+use Rattle.std.proofs.Common.{◌≡◌, ◌≢◌, ◌⊎◌, ℕ, List, [], Option, Some, None, Err}
 use Rattle.std.proofs.Common.{refl, sym, ◌∙◌, ap, subst, inl, inr, arith}
 use Rattle.std.proofs.lemmas.List.{take_all}
 use Rattle.xb_io.specs.Causes.{Files, FaultsRose, TookFront, with_text}
@@ -92,8 +92,8 @@ module _ {S K : Type 0} (held : S → Option Files) (reads : S → ℕ) (took : 
   -- the replay on a speaker that packs by order is the command's
   pub explains_replay : (config manifest log : List ℕ)
       → Explains held reads took writes shelf_old shelf_new sink_old sink_new
-        (λ files. replay_answer Sorted (setup_input config manifest files) log files) status
+      (λ files. replay_answer Sorted (setup_input config manifest files) log files) status
       → Explains held reads took writes shelf_old shelf_new sink_old sink_new
-        (command_answer (replay config manifest log)) status
+      (command_answer (replay config manifest log)) status
   unfolding command_answer
   explains_replay config manifest log e = e

@@ -1,6 +1,5 @@
 -- The number with which the process ends, and the status that an error becomes (this project's own).
 use Rattle.std.specs.Prelude.{ℕ}
-use Rattle.xbgp_top.specs.declared.status.File.{File}
 use Rattle.xbgp_top.specs.declared.status.Status.{Status}
 use Rattle.xbgp_top.specs.declared.status.Status.TheVariants.{Done, Usage, ReadFault, WriteFault, OutOfMemory, TooLong, BadConfig, BadManifest, BadLog, BadStream, BadCode}
 use Rattle.xbgp_top.specs.declared.status.File.TheVariants as files

@@ -51,7 +51,8 @@ pub(crate) fn command_in(words: &[String]) -> Option<Command<'_>>
         [word, config, manifest] if word.as_str() == "check" => {
             Some(Command::Check(config.as_str(), manifest.as_str()))
         }
-        [word, host, config, manifest, log] if word.as_str() == "replay" && host.as_str() == "listed" => {
+        [word, host, config, manifest, log]
+            if word.as_str() == "replay" && host.as_str() == "listed" => {
             Some(Command::Replay(config.as_str(), manifest.as_str(), log.as_str()))
         }
         _ => None,

@@ -1,7 +1,7 @@
 //! The command `replay`: a log is played through a speaker, and its report is written.
 //!
-//! The configuration and the manifest are read and judged first, in this order. What a log gives, and the writing of it,
-//! is `spk_model`'s.
+//! The configuration and the manifest are read and judged first, in this order. What a log gives, and the writing of
+//! it, is `spk_model`'s.
 ghost use Rattle.std.specs.Prelude.{◌≢◌};
 ghost use Rattle.xb_io.specs.Causes.{Files};
 ghost use Rattle.xbgp_top.specs.Answers.{replay_answer, setup_input};
@@ -40,7 +40,7 @@ pub(crate) fn replay_on<H: Host, S: Shelf, K: Sink>(
 ) -> Status
     ensures explains { let setup = setup_input config.now manifest.now in
         Explains S.held S.faults K.took K.faults shelf.old shelf.new sink.old sink.new
-            (λ (files : Files). replay_answer H.RULE (setup files) log.now files) result }
+        (λ (files : Files). replay_answer H.RULE (setup files) log.now files) result }
     ensures command { result ≢ Status.Usage }
 {
     match setup_named(alloc, config, manifest, shelf) {
