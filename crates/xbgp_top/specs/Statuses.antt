@@ -1,7 +1,8 @@
 -- The number with which the process ends, and the status that an error becomes (this project's own).
 use Rattle.std.specs.Prelude.{ℕ}
 use Rattle.xbgp_top.specs.declared.status.Status.{Status}
-use Rattle.xbgp_top.specs.declared.status.Status.TheVariants.{Done, Usage, ReadFault, WriteFault, OutOfMemory, TooLong, BadConfig, BadManifest, BadLog, BadStream, BadCode}
+use Rattle.xbgp_top.specs.declared.status.Status.TheVariants.{Done, Usage, ReadFault, WriteFault, OutOfMemory, TooLong}
+use Rattle.xbgp_top.specs.declared.status.Status.TheVariants.{BadConfig, BadManifest, BadLog, BadStream, BadCode}
 use Rattle.xbgp_top.specs.declared.status.File.TheVariants as files
 use Rattle.xb_fields.specs.declared.fault.FieldError.{FieldError}
 use Rattle.xb_fields.specs.declared.fault.FieldError.TheVariants as configs
