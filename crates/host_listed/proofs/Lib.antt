@@ -4,5 +4,6 @@ mod ExportLemmas
 mod DecideLemmas
 mod UpdateLemmas
 mod SoundLemmas
+mod StartLemmas
 mod JudgeLemmas
 mod WalkLemmas
