@@ -3,6 +3,7 @@
 
 mod best;
 mod decision;
+mod listed;
 mod rescan;
 mod routing;
 mod start;
