@@ -1,5 +1,6 @@
 -- Lemmas on the walk over a section: what is next, and the laws.
-use Rattle.std.proofs.Common.{◌≡◌, refl, sym, ap, ◌∙◌, ℕ, ◌+◌, ◌<◌, List, [], ◌∷◌, ◌++◌, length, take, drop, map, Some, None, append_assoc, arith}
+use Rattle.std.proofs.Common.{◌≡◌, refl, sym, ap, ◌∙◌, ℕ, ◌+◌, ◌<◌, List, [], ◌∷◌, ◌++◌, length, take, drop, map, Some}
+use Rattle.std.proofs.Common.{None, append_assoc, arith}
 use Rattle.std.proofs.lemmas.Bool.{eqb-true}
 use Rattle.std.proofs.lemmas.List.{length-append, append-nil, take_at, drop_at}
 use Rattle.std.proofs.Math.Seq.{take-length}
@@ -10,7 +11,8 @@ use Rattle.xb_words.proofs.CutLemmas.{concat-cut, size-cut-rest}
 use Rattle.xb_words.proofs.CutLemmas.{walk_from-some, walk_from-error, walk_from-nil}
 use Rattle.bgp_attr.specs.declared.attrs.Overrun.{Overrun}
 use Rattle.bgp_attr.specs.Attributes.{attribute_size}
-use Rattle.bgp_attr.specs.Walks.{FoundAttr, found_attr, overrun, attributes_from, raws, walk_end, MatchesSection, attributes_join, attributes_match, attributes_walked}
+use Rattle.bgp_attr.specs.Walks.{FoundAttr, found_attr, overrun, attributes_from, raws, walk_end, MatchesSection}
+use Rattle.bgp_attr.specs.Walks.{attributes_join, attributes_match, attributes_walked}
 use Rattle.bgp_attr.proofs.AttributesLemmas.{IsSize-attribute_size}
 
 -- a whole attribute at the front is the next step

@@ -1,6 +1,7 @@
 -- Path attributes of a section (RFC 4271, section 4.3): flags, a code, a length of one octet, or of two if the flag for
 -- an extended length is set, and a value of that many octets. An attribute is all its octets, as received.
-use Rattle.std.specs.Prelude.{ℕ, ◌+◌, Bool, List, length, drop, slice_index, map, Option, Some, None, nat_le, ◌==◌, not, bit_and, if◌then◌else◌}
+use Rattle.std.specs.Prelude.{ℕ, ◌+◌, Bool, List, length, drop, slice_index, map, Option, Some, None, nat_le, ◌==◌, not}
+use Rattle.std.specs.Prelude.{bit_and, if◌then◌else◌}
 use Rattle.xb_words.specs.Octets.{two_at}
 use Rattle.xb_words.specs.Cut.{cut}
 use Rattle.bgp_attr.specs.declared.flags.TheConstants.{EXTENDED_LENGTH}

@@ -1,6 +1,7 @@
 -- AS_PATH (RFC 4271, sections 4.3 and 5.1.2; RFC 6793 for numbers of four octets): segments, each a set or a sequence,
 -- with a count of at least 1 and that many AS numbers of w octets.
-use Rattle.std.specs.Prelude.{ℕ, zero, suc, ◌+◌, ◌*◌, Bool, false, List, [], ◌∷◌, length, drop, map, flat_map, slice_index, Option, Some, None, nat_le, ◌==◌, ◌&&◌, ◌||◌, if◌then◌else◌, sum_by}
+use Rattle.std.specs.Prelude.{ℕ, zero, suc, ◌+◌, ◌*◌, Bool, false, List, [], ◌∷◌, length, drop, map, flat_map}
+use Rattle.std.specs.Prelude.{slice_index, Option, Some, None, nat_le, ◌==◌, ◌&&◌, ◌||◌, if◌then◌else◌, sum_by}
 use Rattle.std.specs.List.{list_any}
 use Rattle.xb_words.specs.Octets.{two_at, four_at, two_octets, four_octets}
 use Rattle.xb_words.specs.Cut.{cut}

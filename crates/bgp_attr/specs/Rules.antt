@@ -1,6 +1,8 @@
 -- What an attribute must be (RFC 4271, sections 5 and 6.3), with AS numbers of w octets.
-use Rattle.std.specs.Prelude.{ℕ, ◌+◌, Bool, true, List, length, slice_index, Option, Some, None, nat_lt, nat_le, ◌==◌, ◌&&◌, ◌||◌, not, bit_and, if◌then◌else◌}
-use Rattle.bgp_attr.specs.declared.codes.TheConstants.{ORIGIN, AS_PATH, NEXT_HOP, MULTI_EXIT_DISC, LOCAL_PREF, ATOMIC_AGGREGATE, AGGREGATOR}
+use Rattle.std.specs.Prelude.{ℕ, ◌+◌, Bool, true, List, length, slice_index, Option, Some, None, nat_lt, nat_le, ◌==◌}
+use Rattle.std.specs.Prelude.{◌&&◌, ◌||◌, not, bit_and, if◌then◌else◌}
+use Rattle.bgp_attr.specs.declared.codes.TheConstants.{ORIGIN, AS_PATH, NEXT_HOP, MULTI_EXIT_DISC, LOCAL_PREF}
+use Rattle.bgp_attr.specs.declared.codes.TheConstants.{ATOMIC_AGGREGATE, AGGREGATOR}
 use Rattle.bgp_attr.specs.declared.flags.TheConstants.{OPTIONAL, WELL_KNOWN, OPTIONAL_TRANSITIVE, PARTIAL_TRANSITIVE}
 use Rattle.bgp_attr.specs.declared.path.TheConstants.{FOUR_OCTETS}
 use Rattle.bgp_attr.specs.declared.rule.TheConstants.{INCOMPLETE, THIS_NETWORK, LOOPBACK, MULTICAST}

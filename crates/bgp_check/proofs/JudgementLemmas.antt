@@ -1,5 +1,7 @@
 -- Lemmas on the judgement: walks over attributes and prefixes make it step by step, and what its data is at most.
-use Rattle.std.proofs.Common.{◌≡◌, refl, sym, ap, subst, ◌∙◌, ℕ, zero, suc, ◌+◌, ◌-◌, ◌<◌, ◌≤◌, Bool, true, false, not, ◌||◌, List, [], ◌∷◌, length, map, Option, Some, None, Result, Ok, Err, if◌then◌else◌, option_map, is_none, arith}
+use Rattle.std.proofs.Common.{◌≡◌, refl, sym, ap, subst, ◌∙◌, ℕ, zero, suc, ◌+◌, ◌-◌, ◌<◌, ◌≤◌, Bool, true, false, not}
+use Rattle.std.proofs.Common.{◌||◌, List, [], ◌∷◌, length, map, Option, Some, None, Result, Ok, Err, if◌then◌else◌}
+use Rattle.std.proofs.Common.{option_map, is_none, arith}
 use Rattle.std.specs.Prelude.{◌==◌, nat_lt, IfSome}
 use Rattle.std.proofs.Math.Bool.{or-true, or-false}
 use Rattle.std.proofs.Math.Dec.{eqb-suc-zero}
@@ -24,7 +26,8 @@ use Rattle.bgp_attr.specs.Rules.{attr_fault}
 use Rattle.bgp_attr.specs.Walks.{FoundAttr, found_attr, overrun, attributes_from}
 use Rattle.bgp_update.specs.Walks.{prefixes_from}
 use Rattle.bgp_check.specs.Codes.{has_bit}
-use Rattle.bgp_check.specs.Judgement.{attr_notice, attribute_check, first_check, has_code, is_malformed, judge_section, missing, missing_notice, refuse_if, repeats, update_error}
+use Rattle.bgp_check.specs.Judgement.{attr_notice, attribute_check, first_check, has_code, is_malformed, judge_section}
+use Rattle.bgp_check.specs.Judgement.{missing, missing_notice, refuse_if, repeats, update_error}
 
 some_left : (b : ℕ) (rest : List ℕ) → (length (b ∷ rest) == 0) ≡ false
 some_left b rest = eqb-suc-zero (length rest)

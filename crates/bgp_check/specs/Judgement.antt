@@ -1,9 +1,13 @@
 -- The first fault of an UPDATE (RFC 4271, section 6.3; the order of the checks and the check of withdrawn prefixes are
 -- this project's own), with AS numbers of w octets.
-use Rattle.std.specs.Prelude.{ℕ, Bool, true, false, List, [], ◌∷◌, length, map, find, Option, Some, None, option_map, is_none, ◌==◌, ◌&&◌, ◌||◌, not, if◌then◌else◌}
+use Rattle.std.specs.Prelude.{ℕ, Bool, true, false, List, [], ◌∷◌, length, map, find, Option, Some, None, option_map}
+use Rattle.std.specs.Prelude.{is_none, ◌==◌, ◌&&◌, ◌||◌, not, if◌then◌else◌}
 use Rattle.std.specs.List.{list_any}
 use Rattle.xb_words.specs.Optional.{or_else}
-use Rattle.xb_wire.specs.declared.numbers.TheConstants.{UPDATE_MESSAGE_ERROR, MALFORMED_ATTRIBUTE_LIST, UNRECOGNIZED_WELL_KNOWN_ATTRIBUTE, MISSING_WELL_KNOWN_ATTRIBUTE, ATTRIBUTE_FLAGS_ERROR, ATTRIBUTE_LENGTH_ERROR, INVALID_ORIGIN, INVALID_NEXT_HOP, INVALID_NETWORK_FIELD, MALFORMED_AS_PATH}
+use Rattle.xb_wire.specs.declared.numbers.TheConstants.{UPDATE_MESSAGE_ERROR, MALFORMED_ATTRIBUTE_LIST}
+use Rattle.xb_wire.specs.declared.numbers.TheConstants.{UNRECOGNIZED_WELL_KNOWN_ATTRIBUTE, MISSING_WELL_KNOWN_ATTRIBUTE}
+use Rattle.xb_wire.specs.declared.numbers.TheConstants.{ATTRIBUTE_FLAGS_ERROR, ATTRIBUTE_LENGTH_ERROR, INVALID_ORIGIN}
+use Rattle.xb_wire.specs.declared.numbers.TheConstants.{INVALID_NEXT_HOP, INVALID_NETWORK_FIELD, MALFORMED_AS_PATH}
 use Rattle.xb_wire.specs.Messages.{Notification, notification, Update, lengths_fit, update_parts}
 use Rattle.xb_values.specs.Prefixes.{are_prefixes}
 use Rattle.bgp_attr.specs.declared.codes.TheConstants.{ORIGIN, AS_PATH, NEXT_HOP, AS4_PATH, AS4_AGGREGATOR}

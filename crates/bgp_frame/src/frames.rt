@@ -1,5 +1,6 @@
 // The buffer of a stream that comes in pieces.
-ghost use Rattle.std.specs.Prelude.{◌≡◌, ◌↔◌, ◌<◌, ◌≤◌, ◌+◌, ◌-◌, ◌++◌, [], length, take, drop, min, Some, IfOk, vec_capacity};
+ghost use Rattle.std.specs.Prelude.{◌≡◌, ◌↔◌, ◌<◌, ◌≤◌, ◌+◌, ◌-◌, ◌++◌, [], length, take, drop, min, Some, IfOk};
+ghost use Rattle.std.specs.Prelude.{vec_capacity};
 ghost use Rattle.xb_wire.specs.Messages.{message_size, message_body};
 ghost use Rattle.xb_wire.specs.Fronts.{IsNext};
 ghost use Rattle.bgp_frame.specs.Waiting.{Waiting};

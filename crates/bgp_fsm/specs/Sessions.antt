@@ -1,11 +1,13 @@
 -- The session machine, by its rows (after RFC 4271, sections 8.2.2 and 10, simplified: no Active state, no
 -- ConnectRetry timer, and fixed first values of the timers). What a session does is `row`, by its state and then by
 -- the stimulus; the definitions before it are the rows' parts, and `due` says which timer is due first.
-use Rattle.std.specs.Prelude.{◌≡◌, ℕ, ◌+◌, ◌/◌, min, Bool, true, false, List, [], ◌∷◌, ◌++◌, Option, Some, None, nat_le, ◌==◌, if◌then◌else◌}
+use Rattle.std.specs.Prelude.{◌≡◌, ℕ, ◌+◌, ◌/◌, min, Bool, true, false, List, [], ◌∷◌, ◌++◌, Option, Some, None, nat_le}
+use Rattle.std.specs.Prelude.{◌==◌, if◌then◌else◌}
 use Rattle.bgp_fsm.specs.declared.State.{State}
 use Rattle.bgp_fsm.specs.declared.State.TheVariants.{Idle, Connect, OpenSent, OpenConfirm, Established}
 use Rattle.bgp_fsm.specs.declared.Stimulus.{Stimulus}
-use Rattle.bgp_fsm.specs.declared.Stimulus.TheVariants.{Start, Stop, LinkUp, LinkDown, OpenGood, OpenLate, Keepalive, Update, Notified, Fault, HoldDue, KeepaliveDue}
+use Rattle.bgp_fsm.specs.declared.Stimulus.TheVariants.{Start, Stop, LinkUp, LinkDown, OpenGood, OpenLate, Keepalive}
+use Rattle.bgp_fsm.specs.declared.Stimulus.TheVariants.{Update, Notified, Fault, HoldDue, KeepaliveDue}
 use Rattle.bgp_fsm.specs.declared.Act.{Act}
 use Rattle.bgp_fsm.specs.declared.Act.TheVariants.{SendOpen, SendKeepalive, SendNotice, Up, Down, Close}
 use Rattle.bgp_fsm.specs.declared.Timer.{Timer}

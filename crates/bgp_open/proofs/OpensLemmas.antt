@@ -1,5 +1,6 @@
 -- Lemmas on fields one after another: what the octets after a field say of the whole.
-use Rattle.std.proofs.Common.{◌≡◌, inl, inr, refl, sym, ap, ◌∙◌, ℕ, ◌+◌, ◌<◌, ◌≤◌, ◌&&◌, List, [], length, take, drop, Option, Some, None, arith, option_map, nat_le}
+use Rattle.std.proofs.Common.{◌≡◌, inl, inr, refl, sym, ap, ◌∙◌, ℕ, ◌+◌, ◌<◌, ◌≤◌, ◌&&◌, List, [], length, take, drop}
+use Rattle.std.proofs.Common.{Option, Some, None, arith, option_map, nat_le}
 use Rattle.std.proofs.lemmas.Bool.{cases_Bool, and_parts, leb-true}
 use Rattle.std.proofs.lemmas.List.{length-drop}
 use Rattle.std.specs.Prelude.{slice_index, ◌==◌, if◌then◌else◌}
@@ -9,7 +10,8 @@ use Rattle.xb_words.proofs.CutLemmas.{cut-some, cut-none}
 use Rattle.xb_wire.specs.declared.numbers.TheConstants.{UNSPECIFIC}
 use Rattle.xb_wire.specs.Messages.{Notification}
 use Rattle.bgp_open.specs.declared.TheConstants.{FIELD_HEADER}
-use Rattle.bgp_open.specs.Opens.{field_size, front_field, field_value, fills, first_parameter_fault, open_error, parameter_fault, parameters_fault, as_of, first_as, as_in, first_as_in, wide_as}
+use Rattle.bgp_open.specs.Opens.{field_size, front_field, field_value, fills, first_parameter_fault, open_error}
+use Rattle.bgp_open.specs.Opens.{parameter_fault, parameters_fault, as_of, first_as, as_in, first_as_in, wide_as}
 
 -- octets can be cut into fields: one is not empty and does not run past the end
 pub IsSize-field_size : IsSize field_size

@@ -2,13 +2,17 @@
 -- the parameter that holds capabilities; RFC 6793, section 3, for the capability of an AS number). A body is a version
 -- of 1 octet, an AS number of 2, a hold time of 2, an identifier of 4, the length of the parameters in 1, and the
 -- parameters.
-use Rattle.std.specs.Prelude.{ℕ, ◌+◌, Bool, List, [], ◌∷◌, length, is_some, take, drop, slice_index, Option, Some, None, option_map, nat_lt, nat_le, ◌==◌, ◌&&◌, not, if◌then◌else◌}
+use Rattle.std.specs.Prelude.{ℕ, ◌+◌, Bool, List, [], ◌∷◌, length, is_some, take, drop, slice_index, Option, Some, None}
+use Rattle.std.specs.Prelude.{option_map, nat_lt, nat_le, ◌==◌, ◌&&◌, not, if◌then◌else◌}
 use Rattle.xb_words.specs.Octets.{two_at, four_at, two_octets}
 use Rattle.xb_words.specs.Cut.{cut}
 use Rattle.xb_words.specs.Optional.{or_else}
-use Rattle.xb_wire.specs.declared.numbers.TheConstants.{OPEN_MESSAGE_ERROR, UNSPECIFIC, UNSUPPORTED_VERSION_NUMBER, BAD_PEER_AS, BAD_BGP_IDENTIFIER, UNSUPPORTED_OPTIONAL_PARAMETER, UNACCEPTABLE_HOLD_TIME, VERSION}
+use Rattle.xb_wire.specs.declared.numbers.TheConstants.{OPEN_MESSAGE_ERROR, UNSPECIFIC, UNSUPPORTED_VERSION_NUMBER}
+use Rattle.xb_wire.specs.declared.numbers.TheConstants.{BAD_PEER_AS, BAD_BGP_IDENTIFIER, UNSUPPORTED_OPTIONAL_PARAMETER}
+use Rattle.xb_wire.specs.declared.numbers.TheConstants.{UNACCEPTABLE_HOLD_TIME, VERSION}
 use Rattle.xb_wire.specs.Messages.{Notification, notification}
-use Rattle.bgp_open.specs.declared.TheConstants.{MY_AS, HOLD_TIME, IDENTIFIER, PARAMETERS_LENGTH, PARAMETERS, CAPABILITIES, FOUR_OCTET_AS, FIELD_HEADER, AS_CAPABILITY, MIN_HOLD}
+use Rattle.bgp_open.specs.declared.TheConstants.{MY_AS, HOLD_TIME, IDENTIFIER, PARAMETERS_LENGTH, PARAMETERS}
+use Rattle.bgp_open.specs.declared.TheConstants.{CAPABILITIES, FOUR_OCTET_AS, FIELD_HEADER, AS_CAPABILITY, MIN_HOLD}
 use Rattle.bgp_open.specs.declared.OpenSeen4.{OpenSeen4}
 
 -- an error of an OPEN with its data

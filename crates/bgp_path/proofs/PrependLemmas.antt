@@ -1,5 +1,6 @@
 -- Lemmas on the octets of a path, also with an AS number prepended.
-use Rattle.std.proofs.Common.{◌≡◌, refl, sym, ap, ◌∙◌, subst, ℕ, suc, ◌+◌, ◌*◌, ◌<◌, ◌≤◌, Bool, true, false, Some, None, List, [], ◌∷◌, ◌++◌, length, drop, flat_map, append_assoc, arith}
+use Rattle.std.proofs.Common.{◌≡◌, refl, sym, ap, ◌∙◌, subst, ℕ, suc, ◌+◌, ◌*◌, ◌<◌, ◌≤◌, Bool, true, false, Some, None}
+use Rattle.std.proofs.Common.{List, [], ◌∷◌, ◌++◌, length, drop, flat_map, append_assoc, arith}
 use Rattle.std.proofs.lemmas.List.{length-append, append-nil, drop_at}
 use Rattle.std.proofs.lemmas.Bool.{le-leb}
 use Rattle.std.specs.Prelude.{◌||◌, ◌&&◌, ◌==◌, nat_le, if◌then◌else◌}
@@ -7,7 +8,8 @@ use Rattle.xb_words.specs.Octets.{AreOctets}
 use Rattle.xb_words.proofs.ListLemmas.{AllByRecursion-left, AllByRecursion-right}
 use Rattle.xb_words.specs.Cut.{cut}
 use Rattle.bgp_attr.specs.declared.segments.TheConstants.{AS_SET, AS_SEQUENCE, MAX_NUMBERS}
-use Rattle.bgp_attr.specs.Paths.{Segment, segment_size, path, path_ok, path_octets, segment_octets, number_octets, numbers_of, prepend}
+use Rattle.bgp_attr.specs.Paths.{Segment, segment_size, path, path_ok, path_octets, segment_octets, number_octets}
+use Rattle.bgp_attr.specs.Paths.{numbers_of, prepend}
 use Rattle.bgp_attr.proofs.PathsLemmas.{segments_rest-some}
 use Rattle.bgp_path.specs.Parts.{Part, part_octets, path_parts, part_segment, segments_join}
 use Rattle.bgp_attr.specs.Paths.{width_of}

@@ -1,5 +1,6 @@
 -- Lemmas on a path as its first segment and the path after it.
-use Rattle.std.proofs.Common.{◌≡◌, refl, sym, ap, ◌∙◌, subst, ℕ, zero, suc, ◌+◌, ◌*◌, ◌<◌, ◌≤◌, Bool, true, false, List, [], ◌∷◌, ◌++◌, length, take, drop, map, Some, None, arith}
+use Rattle.std.proofs.Common.{◌≡◌, refl, sym, ap, ◌∙◌, subst, ℕ, zero, suc, ◌+◌, ◌*◌, ◌<◌, ◌≤◌, Bool, true, false, List}
+use Rattle.std.proofs.Common.{[], ◌∷◌, ◌++◌, length, take, drop, map, Some, None, arith}
 use Rattle.std.proofs.lemmas.Bool.{and_parts, eqb-true, leb-true}
 use Rattle.std.proofs.lemmas.Bool.Decides.{nat_tests}
 use Rattle.std.proofs.lemmas.List.{length-append, length-take-le, take-append-drop}
@@ -9,7 +10,8 @@ use Rattle.std.specs.List.{list_any}
 use Rattle.xb_words.specs.Cut.{Pieces, after_item, cut}
 use Rattle.xb_words.proofs.CutLemmas.{cut-some}
 use Rattle.bgp_attr.specs.declared.segments.TheConstants.{AS_SET, AS_SEQUENCE}
-use Rattle.bgp_attr.specs.Paths.{segment_size, segment_of, path_ok, path, numbers_of, first_number, segment_hops, hops, contains, leftmost}
+use Rattle.bgp_attr.specs.Paths.{segment_size, segment_of, path_ok, path, numbers_of, first_number, segment_hops, hops}
+use Rattle.bgp_attr.specs.Paths.{contains, leftmost}
 use Rattle.std.proofs.lemmas.Option.{cond_some}
 use Rattle.bgp_attr.proofs.PathsLemmas.{IsSize-segment_size, segments_rest-none}
 use Rattle.bgp_path.specs.Parts.{Part, part_of, part_segment, path_parts}

@@ -1,5 +1,6 @@
 -- Lemmas on a text that is written over octets of a slice part after part, from an offset on.
-use Rattle.std.proofs.Common.{◌≡◌, refl, sym, ap, ◌∙◌, ℕ, ◌+◌, ◌≤◌, List, [], ◌++◌, length, take, drop, append_assoc, arith}
+use Rattle.std.proofs.Common.{◌≡◌, refl, sym, ap, ◌∙◌, ℕ, ◌+◌, ◌≤◌, List, [], ◌++◌, length, take, drop, append_assoc}
+use Rattle.std.proofs.Common.{arith}
 use Rattle.std.proofs.lemmas.List.{length-append, append-nil, take_at, length-take-le, drop-drop, take-append-drop}
 use Rattle.std.proofs.Math.Seq.{drop-append-add}
 

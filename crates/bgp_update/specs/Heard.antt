@@ -1,6 +1,7 @@
 -- The table that a stream of messages announces (RFC 4271, sections 3.1 and 4.3): an UPDATE withdraws prefixes, and
 -- then announces prefixes with a section of path attributes.
-use Rattle.std.specs.Prelude.{ℕ, Bool, List, [], length, Option, Some, None, Result, Ok, Err, find, fold, not, ◌==◌, ◌&&◌, if◌then◌else◌}
+use Rattle.std.specs.Prelude.{ℕ, Bool, List, [], length, Option, Some, None, Result, Ok, Err, find, fold, not, ◌==◌}
+use Rattle.std.specs.Prelude.{◌&&◌, if◌then◌else◌}
 use Rattle.std.specs.List.{concat}
 use Rattle.xb_words.specs.Cut.{with_offsets}
 use Rattle.xb_words.specs.Table.{with_value, without}

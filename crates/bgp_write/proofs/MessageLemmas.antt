@@ -1,11 +1,13 @@
 -- An UPDATE that is not too long is one message, and how long it is.
-use Rattle.std.proofs.Common.{◌≡◌, refl, sym, subst, ◌∙◌, ℕ, ◌+◌, ◌≤◌, List, [], ◌++◌, length, Bool, true, false, cond, Option, None, arith, nat_lt}
+use Rattle.std.proofs.Common.{◌≡◌, refl, sym, subst, ◌∙◌, ℕ, ◌+◌, ◌≤◌, List, [], ◌++◌, length, Bool, true, false, cond}
+use Rattle.std.proofs.Common.{Option, None, arith, nat_lt}
 use Rattle.std.specs.Prelude.{◌||◌, if◌then◌else◌}
 use Rattle.std.proofs.lemmas.Bool.{le-ltb}
 use Rattle.std.proofs.lemmas.List.{length-append}
 use Rattle.std.proofs.lemmas.Nat.{from_be_bytes-to_be_bytes_2}
 use Rattle.xb_words.specs.Octets.{two_octets}
-use Rattle.xb_wire.specs.Messages.{Update, Notification, message, update_body, update_message, header_fault, message_length, is_bad_length, IsMessage}
+use Rattle.xb_wire.specs.Messages.{Update, Notification, message, update_body, update_message, header_fault}
+use Rattle.xb_wire.specs.Messages.{message_length, is_bad_length, IsMessage}
 use Rattle.xb_wire.proofs.MessageLemmas.{size_if_passed}
 use Rattle.bgp_write.specs.Packings.{Packed, packed_message}
 

@@ -1,5 +1,6 @@
 -- What is packed after one more prefix, and how long its message is.
-use Rattle.std.proofs.Common.{◌≡◌, refl, sym, ap, ◌∙◌, ℕ, ◌+◌, ◌-◌, ◌≤◌, Bool, true, false, List, [], ◌∷◌, ◌++◌, length, take, drop, arith, add-zero}
+use Rattle.std.proofs.Common.{◌≡◌, refl, sym, ap, ◌∙◌, ℕ, ◌+◌, ◌-◌, ◌≤◌, Bool, true, false, List, [], ◌∷◌, ◌++◌, length}
+use Rattle.std.proofs.Common.{take, drop, arith, add-zero}
 use Rattle.std.specs.Prelude.{slice_index, slice_range, replicate}
 use Rattle.std.proofs.lemmas.List.{length-append, append_assoc, append-nil, take_at, drop_at}
 use Rattle.xb_words.specs.Octets.{two_octets}
@@ -7,7 +8,8 @@ use Rattle.xb_values.specs.Buffers.{Buffer}
 use Rattle.bgp_write.specs.Written.{Replaces}
 use Rattle.xb_wire.specs.Messages.{IsMessage}
 use Rattle.bgp_write.proofs.MessageLemmas.{update_is_message, is_message_along}
-use Rattle.bgp_write.specs.Packings.{packed_update, sealed, IsPacking, packed_in, packed_message, front_in, section_in, prefixes_in, tail_of, header_with, sized}
+use Rattle.bgp_write.specs.Packings.{packed_update, sealed, IsPacking, packed_in, packed_message, front_in, section_in}
+use Rattle.bgp_write.specs.Packings.{prefixes_in, tail_of, header_with, sized}
 
 -- a list without the tail with which it ends
 take-before_tail : (s a t : List ℕ) → s ≡ a ++ t → take (length s - length t) s ≡ a

@@ -1,5 +1,7 @@
 -- What is written is read again.
-use Rattle.std.proofs.Common.{◌≡◌, ◌≢◌, inl, inr, refl, sym, ap, ◌∙◌, ℕ, zero, suc, ◌+◌, ◌-◌, ◌*◌, ◌/◌, ◌%◌, ◌^◌, ◌<◌, ◌≤◌, ◌&&◌, Bool, true, false, List, [], ◌∷◌, ◌++◌, length, take, drop, map, Option, Some, None, arith, add-zero, nat_le, nat_lt, flat_map}
+use Rattle.std.proofs.Common.{◌≡◌, ◌≢◌, inl, inr, refl, sym, ap, ◌∙◌, ℕ, zero, suc, ◌+◌, ◌-◌, ◌*◌, ◌/◌, ◌%◌, ◌^◌, ◌<◌}
+use Rattle.std.proofs.Common.{◌≤◌, ◌&&◌, Bool, true, false, List, [], ◌∷◌, ◌++◌, length, take, drop, map, Option, Some}
+use Rattle.std.proofs.Common.{None, arith, add-zero, nat_le, nat_lt, flat_map}
 use Rattle.std.specs.Prelude.{is_some, slice_index, slice_range, if◌then◌else◌, ◌==◌, not}
 use Rattle.std.specs.Int.{w16, w32, from_be_bytes}
 use Rattle.std.specs.List.{AllByRecursion, concat}
@@ -15,10 +17,12 @@ use Rattle.xb_wire.proofs.MessageLemmas.{message_size_is_size, message_size_is_s
 use Rattle.xb_words.specs.Optional.{or_else}
 use Rattle.xb_wire.specs.Messages.{Notification}
 use Rattle.xb_wire.specs.declared.numbers.TheConstants.{BAD_BGP_IDENTIFIER, BAD_PEER_AS, UNACCEPTABLE_HOLD_TIME}
-use Rattle.bgp_open.specs.Opens.{as_fault, as_in, as_or_field, fills, fixed_fault, is_short_hold, judge_open4, open_error, open_seen4, parameters, parameters_fault, wide_as}
+use Rattle.bgp_open.specs.Opens.{as_fault, as_in, as_or_field, fills, fixed_fault, is_short_hold, judge_open4}
+use Rattle.bgp_open.specs.Opens.{open_error, open_seen4, parameters, parameters_fault, wide_as}
 use Rattle.bgp_write.specs.Written.{as_parameter, open_body, wide_open_body}
 use Rattle.bgp_write.proofs.PackingLemmas.{slice_range-part}
-use Rattle.xb_values.specs.Prefixes.{Prefix, prefix_of, prefix_at, prefix_octets, prefix_size, prefixes, are_prefixes, octets_for, cleared, IsPrefix}
+use Rattle.xb_values.specs.Prefixes.{Prefix, prefix_of, prefix_at, prefix_octets, prefix_size, prefixes, are_prefixes}
+use Rattle.xb_values.specs.Prefixes.{octets_for, cleared, IsPrefix}
 use Rattle.xb_values.proofs.PrefixLemmas.{prefix_size_is_size}
 
 -- octets after a prefix do not change its size

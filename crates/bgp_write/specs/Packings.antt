@@ -1,5 +1,6 @@
 -- An UPDATE that is being packed (RFC 4271, section 4.3).
-use Rattle.std.specs.Prelude.{◌≡◌, ℕ, ◌+◌, ◌-◌, ◌≤◌, Bool, true, false, List, [], ◌∷◌, ◌++◌, length, replicate, slice_index, slice_range, if◌then◌else◌}
+use Rattle.std.specs.Prelude.{◌≡◌, ℕ, ◌+◌, ◌-◌, ◌≤◌, Bool, true, false, List, [], ◌∷◌, ◌++◌, length, replicate}
+use Rattle.std.specs.Prelude.{slice_index, slice_range, if◌then◌else◌}
 use Rattle.xb_words.specs.Octets.{two_octets}
 use Rattle.xb_values.specs.Buffers.{Buffer}
 use Rattle.xb_values.specs.Prefixes.{Prefix, prefix_octets}

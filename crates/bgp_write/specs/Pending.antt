@@ -1,6 +1,7 @@
 -- What waits to be told to a peer, and the next message that tells it (RFC 4271, section 4.3, for what an UPDATE may
 -- hold; how prefixes are packed into messages is this project's own).
-use Rattle.std.specs.Prelude.{ℕ, ◌-◌, Bool, true, false, List, [], ◌∷◌, ◌++◌, length, flat_map, filter, take_while, Option, Some, None, is_none, not, nat_lt, if◌then◌else◌, fold}
+use Rattle.std.specs.Prelude.{ℕ, ◌-◌, Bool, true, false, List, [], ◌∷◌, ◌++◌, length, flat_map, filter, take_while}
+use Rattle.std.specs.Prelude.{Option, Some, None, is_none, not, nat_lt, if◌then◌else◌, fold}
 use Rattle.std.specs.Map.{keys_of}
 use Rattle.std.specs.Str.{bytes_eq}
 use Rattle.xb_words.specs.Table.{value_at, with_value, without, set_of}

@@ -1,9 +1,11 @@
 -- Messages as they are written (RFC 4271, sections 4.2, 4.4 and 4.5; RFC 6793, sections 3 and 9).
-use Rattle.std.specs.Prelude.{◌≡◌, ℕ, ◌+◌, ◌-◌, ◌^◌, List, [], ◌∷◌, ◌++◌, replicate, slice_set, slice_index, nat_lt, if◌then◌else◌}
+use Rattle.std.specs.Prelude.{◌≡◌, ℕ, ◌+◌, ◌-◌, ◌^◌, List, [], ◌∷◌, ◌++◌, replicate, slice_set, slice_index, nat_lt}
+use Rattle.std.specs.Prelude.{if◌then◌else◌}
 use Rattle.xb_words.specs.Octets.{two_octets, four_octets}
 use Rattle.xb_values.specs.Buffers.{Buffer}
 use Rattle.xb_wire.specs.Messages.{message}
-use Rattle.xb_wire.specs.declared.numbers.TheConstants.{MARKER, HEADER, LEAST_OPEN, OPEN, NOTIFICATION, KEEPALIVE, VERSION}
+use Rattle.xb_wire.specs.declared.numbers.TheConstants.{MARKER, HEADER, LEAST_OPEN, OPEN, NOTIFICATION, KEEPALIVE}
+use Rattle.xb_wire.specs.declared.numbers.TheConstants.{VERSION}
 use Rattle.bgp_attr.specs.declared.segments.TheConstants.{AS_TRANS}
 use Rattle.bgp_open.specs.declared.TheConstants.{CAPABILITIES, FOUR_OCTET_AS}
 use Rattle.bgp_write.specs.declared.control.TheConstants.{AS_PARAMETER}

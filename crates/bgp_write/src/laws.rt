@@ -1,8 +1,10 @@
 //! Laws of the definitions: what is written is read again. Each is the contract of a function that does nothing.
-ghost use Rattle.std.specs.Prelude.{◌≡◌, ◌≢◌, ◌+◌, ◌<◌, ◌^◌, ℕ, List, [], ◌∷◌, length, flat_map, Some, None, true, false, if◌then◌else◌};
+ghost use Rattle.std.specs.Prelude.{◌≡◌, ◌≢◌, ◌+◌, ◌<◌, ◌^◌, ℕ, List, [], ◌∷◌, length, flat_map, Some, None, true};
+ghost use Rattle.std.specs.Prelude.{false, if◌then◌else◌};
 ghost use Rattle.std.specs.List.{AllByRecursion};
 ghost use Rattle.xb_words.specs.Octets.{two_at, four_at};
-ghost use Rattle.xb_wire.specs.Messages.{Update, message, message_kind, message_body, split, update_body, update_message, update_of, IsMessage};
+ghost use Rattle.xb_wire.specs.Messages.{Update, message, message_kind, message_body, split, update_body};
+ghost use Rattle.xb_wire.specs.Messages.{update_message, update_of, IsMessage};
 ghost use Rattle.xb_values.specs.Prefixes.{Prefix, prefixes, are_prefixes, prefix_octets, IsPrefix};
 ghost use Rattle.bgp_open.specs.Opens.{is_short_hold, judge_open4, open_seen4};
 ghost use Rattle.bgp_write.specs.Written.{open_body, wide_open_body};

@@ -1,16 +1,22 @@
 -- What follows from code in which the loader finds no fault.
-use Rattle.std.proofs.Common.{◌≡◌, ◌≢◌, refl, sym, ap, ◌∙◌, subst, ℕ, zero, suc, ◌+◌, ◌-◌, ◌*◌, ◌%◌, ◌<◌, ◌≤◌, Bool, true, false, List, [], ◌∷◌, length, get_or, Option, Some, None, option_map, arith, inl, inr, ◌^◌}
+use Rattle.std.proofs.Common.{◌≡◌, ◌≢◌, refl, sym, ap, ◌∙◌, subst, ℕ, zero, suc, ◌+◌, ◌-◌, ◌*◌, ◌%◌, ◌<◌, ◌≤◌, Bool}
+use Rattle.std.proofs.Common.{true, false, List, [], ◌∷◌, length, get_or, Option, Some, None, option_map, arith, inl}
+use Rattle.std.proofs.Common.{inr, ◌^◌}
 use Rattle.std.specs.Prelude.{ℤ, pos, negsuc, ◌+ℤ◌, not, filter, nat_lt, ◌==◌, ◌&&◌, ◌||◌, if◌then◌else◌}
-use Rattle.std.proofs.lemmas.Bool.{cases_Bool, cases_lt, cases_eq, not-false, not-true, ltb-true, false_from_ne_true, not_from_false, or_parts, and_from, and_parts, ltb-false, lt-ltb, eqb-true, eqb-false}
+use Rattle.std.proofs.lemmas.Bool.{cases_Bool, cases_lt, cases_eq, not-false, not-true, ltb-true, false_from_ne_true}
+use Rattle.std.proofs.lemmas.Bool.{not_from_false, or_parts, and_from, and_parts, ltb-false, lt-ltb, eqb-true}
+use Rattle.std.proofs.lemmas.Bool.{eqb-false}
 use Rattle.std.proofs.lemmas.Int.{ints}
 use Rattle.xb_words.specs.Optional.{or_else}
 use Rattle.bpf_insn.specs.declared.fault.LoadKind.{LoadKind}
-use Rattle.bpf_insn.specs.declared.fault.LoadKind.TheVariants.{Length, TooLong, Opcode, Register, Reserved, WidePair, Jump, WriteR10, Helper, OpenEnd}
+use Rattle.bpf_insn.specs.declared.fault.LoadKind.TheVariants.{Length, TooLong, Opcode, Register, Reserved, WidePair}
+use Rattle.bpf_insn.specs.declared.fault.LoadKind.TheVariants.{Jump, WriteR10, Helper, OpenEnd}
 use Rattle.bpf_insn.specs.declared.fault.LoadFault.{LoadFault}
 use Rattle.bpf_insn.specs.declared.limits.TheConstants.{SLOT_SIZE, MAX_SLOTS, FRAME_POINTER}
 use Rattle.bpf_insn.specs.Slots.{slots, opcode_of, dst_of, src_of, raw_offset, raw_imm, is_wide, word}
 use Rattle.bpf_insn.specs.Forms.{is_opcode, are_fields, has_target, writes_register, is_call, is_exit, is_ja}
-use Rattle.bpf_insn.specs.Loading.{is_second, begins, numbers_from, starts, last_start, has_second, target, is_start, slot_fault, fault_at, first_slot_fault, end_fault, load_fault}
+use Rattle.bpf_insn.specs.Loading.{is_second, begins, numbers_from, starts, last_start, has_second, target, is_start}
+use Rattle.bpf_insn.specs.Loading.{slot_fault, fault_at, first_slot_fault, end_fault, load_fault}
 use Rattle.bpf_insn.specs.Seconds.{AreSeconds}
 use Rattle.bpf_insn.specs.Sound.{every_helper, IsAccepted, slot_after, IsSound, CallsOnly}
 use Rattle.bpf_insn.proofs.SecondLemmas.{is_second-next}

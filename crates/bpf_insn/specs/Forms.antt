@@ -1,7 +1,10 @@
 -- The forms of instructions that this profile has, and the fields that each may have (RFC 9669, sections 3 to 5).
 use Rattle.std.specs.Prelude.{ℕ, ◌/◌, ◌%◌, Bool, nat_le, ◌==◌, ◌&&◌, ◌||◌, not, if◌then◌else◌}
-use Rattle.bpf_insn.specs.declared.opcodes.TheConstants.{ALU, ALU64, JMP, JMP32, DIV, NEG, MOD, MOV, ARSH, JEQ, JSGE, JLT, JSLE, NEG_ALU, NEG_ALU64, END_LE, END_BE, END_SWAP, JA_JMP, JA_JMP32, CALL_JMP, EXIT_JMP}
-use Rattle.bpf_insn.specs.declared.opcodes.TheConstants.{LDX_W, LDX_H, LDX_B, LDX_DW, LDX_SW, LDX_SH, LDX_SB, ST_W, ST_H, ST_B, ST_DW, STX_W, STX_H, STX_B, STX_DW}
+use Rattle.bpf_insn.specs.declared.opcodes.TheConstants.{ALU, ALU64, JMP, JMP32, DIV, NEG, MOD, MOV, ARSH, JEQ, JSGE}
+use Rattle.bpf_insn.specs.declared.opcodes.TheConstants.{JLT, JSLE, NEG_ALU, NEG_ALU64, END_LE, END_BE, END_SWAP}
+use Rattle.bpf_insn.specs.declared.opcodes.TheConstants.{JA_JMP, JA_JMP32, CALL_JMP, EXIT_JMP}
+use Rattle.bpf_insn.specs.declared.opcodes.TheConstants.{LDX_W, LDX_H, LDX_B, LDX_DW, LDX_SW, LDX_SH, LDX_SB, ST_W}
+use Rattle.bpf_insn.specs.declared.opcodes.TheConstants.{ST_H, ST_B, ST_DW, STX_W, STX_H, STX_B, STX_DW}
 use Rattle.bpf_insn.specs.Slots.{is_wide}
 
 -- the class of an opcode: the low three bits

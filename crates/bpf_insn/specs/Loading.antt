@@ -1,9 +1,11 @@
 -- The first fault of bytecode (RFC 9669, sections 3 to 5, in this project's profile).
 -- The order of the checks and the limit are this project's own.
-use Rattle.std.specs.Prelude.{ℕ, zero, suc, ◌+◌, ◌-◌, ◌%◌, Bool, false, List, [], ◌∷◌, length, filter, Option, Some, None, option_map, ℤ, pos, negsuc, ◌+ℤ◌, nat_lt, ◌==◌, ◌&&◌, ◌||◌, not, if◌then◌else◌}
+use Rattle.std.specs.Prelude.{ℕ, zero, suc, ◌+◌, ◌-◌, ◌%◌, Bool, false, List, [], ◌∷◌, length, filter, Option, Some}
+use Rattle.std.specs.Prelude.{None, option_map, ℤ, pos, negsuc, ◌+ℤ◌, nat_lt, ◌==◌, ◌&&◌, ◌||◌, not, if◌then◌else◌}
 use Rattle.xb_words.specs.Optional.{or_else}
 use Rattle.bpf_insn.specs.declared.fault.LoadKind.{LoadKind}
-use Rattle.bpf_insn.specs.declared.fault.LoadKind.TheVariants.{Length, TooLong, Opcode, Register, Reserved, WidePair, Jump, WriteR10, Helper, OpenEnd}
+use Rattle.bpf_insn.specs.declared.fault.LoadKind.TheVariants.{Length, TooLong, Opcode, Register, Reserved, WidePair}
+use Rattle.bpf_insn.specs.declared.fault.LoadKind.TheVariants.{Jump, WriteR10, Helper, OpenEnd}
 use Rattle.bpf_insn.specs.declared.fault.LoadFault.{LoadFault}
 use Rattle.bpf_insn.specs.declared.limits.TheConstants.{SLOT_SIZE, MAX_SLOTS, FRAME_POINTER}
 use Rattle.bpf_insn.specs.declared.opcodes.TheConstants.{JA_JMP32}

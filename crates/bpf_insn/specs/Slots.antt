@@ -1,6 +1,7 @@
 -- Slots of bytecode: opcode, registers (the destination in the low four bits), offset, immediate, little-endian
 -- (RFC 9669, sections 3.1 and 3.2).
-use Rattle.std.specs.Prelude.{ℕ, ◌+◌, ◌*◌, ◌/◌, ◌%◌, ◌^◌, Bool, List, [], ◌∷◌, length, take, drop, slice_index, ℤ, ◌==◌, if◌then◌else◌}
+use Rattle.std.specs.Prelude.{ℕ, ◌+◌, ◌*◌, ◌/◌, ◌%◌, ◌^◌, Bool, List, [], ◌∷◌, length, take, drop, slice_index, ℤ, ◌==◌}
+use Rattle.std.specs.Prelude.{if◌then◌else◌}
 use Rattle.std.specs.Int.{w16, w32, w64, cast_signed, cast_unsigned, from_le_bytes}
 use Rattle.bpf_insn.specs.declared.limits.TheConstants.{SLOT_SIZE}
 use Rattle.bpf_insn.specs.declared.opcodes.TheConstants.{LD_IMM64}

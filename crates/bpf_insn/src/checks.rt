@@ -4,7 +4,8 @@ ghost use Rattle.std.specs.Int.{w16, w32, cast_signed};
 ghost use Rattle.bpf_insn.specs.Helpers.{allows};
 ghost use Rattle.bpf_insn.specs.Slots.{slots};
 ghost use Rattle.bpf_insn.specs.Forms.{is_alu_offset, has_one_operand, are_fields};
-ghost use Rattle.bpf_insn.specs.Loading.{has_second, is_start, target, slot_fault, first_slot_fault, starts, end_fault, load_fault};
+ghost use Rattle.bpf_insn.specs.Loading.{has_second, is_start, target, slot_fault, first_slot_fault, starts, end_fault};
+ghost use Rattle.bpf_insn.specs.Loading.{load_fault};
 ghost use Rattle.bpf_insn.specs.Seconds.{AreSeconds};
 
 use crate::fault::{LoadFault, LoadKind};

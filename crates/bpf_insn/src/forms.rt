@@ -1,7 +1,9 @@
 //! The forms of instructions that this profile has, by opcode (RFC 9669, sections 3 to 5).
 ghost use Rattle.std.specs.Prelude.{◌≡◌};
 ghost use Rattle.bpf_insn.specs.Slots.{is_wide};
-ghost use Rattle.bpf_insn.specs.Forms.{class, by_register, operation, is_alu, is_neg, is_end, is_condition, is_ja, is_call, is_exit, is_load, is_signed_load, is_store, is_register_store, is_opcode, has_target, writes_register};
+ghost use Rattle.bpf_insn.specs.Forms.{class, by_register, operation, is_alu, is_neg, is_end, is_condition, is_ja};
+ghost use Rattle.bpf_insn.specs.Forms.{is_call, is_exit, is_load, is_signed_load, is_store, is_register_store};
+ghost use Rattle.bpf_insn.specs.Forms.{is_opcode, has_target, writes_register};
 
 use crate::opcodes::{
     ALU, ALU64, ARSH, CALL_JMP, END_BE, END_LE, END_SWAP, EXIT_JMP, JA_JMP, JA_JMP32, JEQ, JLT,

@@ -1,5 +1,6 @@
 -- In accepted code there is an instruction after each one that goes on, and after each call.
-use Rattle.std.proofs.Common.{◌≡◌, ◌≢◌, refl, sym, ap, ◌∙◌, subst, ℕ, ◌+◌, ◌<◌, Bool, true, false, List, Option, Some, None, arith, inl, inr, ◌⊎◌}
+use Rattle.std.proofs.Common.{◌≡◌, ◌≢◌, refl, sym, ap, ◌∙◌, subst, ℕ, ◌+◌, ◌<◌, Bool, true, false, List, Option, Some}
+use Rattle.std.proofs.Common.{None, arith, inl, inr, ◌⊎◌}
 use Rattle.std.specs.Prelude.{◌==◌, if◌then◌else◌, ℤ, pos, ◌+ℤ◌}
 use Rattle.std.proofs.lemmas.Bool.{cases_Bool, cases_eq, eq-eqb, ne_eqb, eqb-true, eqb-false, ltb-true, and_parts}
 use Rattle.std.proofs.lemmas.Bool.Decides.{nat_tests}
@@ -8,10 +9,12 @@ use Rattle.bpf_insn.specs.Slots.{slots, insn_at, word, opcode_of, offset_of, imm
 use Rattle.bpf_insn.specs.Loading.{begins, is_start}
 use Rattle.bpf_insn.specs.Sound.{IsAccepted, IsSound, slot_after}
 use Rattle.bpf_machine.specs.Words.{low}
-use Rattle.bpf_machine.specs.Steps.{Machine, Did, goes, ends, faults, calls, reg, access_address, access_size, jump_target, jump_step, load_step, store_step, insn_step, take_step}
+use Rattle.bpf_machine.specs.Steps.{Machine, Did, goes, ends, faults, calls, reg, access_address, access_size}
+use Rattle.bpf_machine.specs.Steps.{jump_target, jump_step, load_step, store_step, insn_step, take_step}
 use Rattle.bpf_machine.specs.Does.{machine}
 use Rattle.bpf_insn.proofs.LoadLemmas.{begins-jump}
-use Rattle.bpf_machine.proofs.StepLemmas.{take_step-insn_step, insn_step-arithmetic, insn_step-jump, insn_step-wide, insn_step-load, insn_step-store, insn_step-register_store}
+use Rattle.bpf_machine.proofs.StepLemmas.{take_step-insn_step, insn_step-arithmetic, insn_step-jump, insn_step-wide}
+use Rattle.bpf_machine.proofs.StepLemmas.{insn_step-load, insn_step-store, insn_step-register_store}
 use Rattle.bpf_insn.specs.Forms.{class, operation, is_opcode, is_call, is_exit, is_ja, has_target}
 
 -- the opcodes of a class

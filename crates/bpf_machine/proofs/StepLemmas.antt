@@ -8,7 +8,8 @@ use Rattle.bpf_insn.specs.declared.insn.Insn.{Insn}
 use Rattle.bpf_insn.specs.Slots.{insn_at, word}
 use Rattle.bpf_insn.specs.Forms.{class, operation}
 use Rattle.bpf_machine.specs.Words.{low, result_of}
-use Rattle.bpf_machine.specs.Steps.{Did, goes, reg, operand, computed, jump_step, access_address, access_size, load_step, store_step, set_step, insn_step, take_step}
+use Rattle.bpf_machine.specs.Steps.{Did, goes, reg, operand, computed, jump_step, access_address, access_size}
+use Rattle.bpf_machine.specs.Steps.{load_step, store_step, set_step, insn_step, take_step}
 use Rattle.bpf_machine.specs.declared.step.Step.{Step}
 use Rattle.bpf_machine.specs.Does.{Does, machine}
 

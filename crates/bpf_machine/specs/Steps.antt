@@ -1,9 +1,11 @@
 -- One instruction, by its class (RFC 9669, sections 4 and 5), on eleven numbers below 2^64 and memory.
 -- The loader accepts no opcodes except those of the profile, so nothing is said of others.
-use Rattle.std.specs.Prelude.{ℕ, ◌+◌, ◌/◌, ◌%◌, ◌^◌, Bool, List, [], ◌∷◌, slice_index, slice_set, Option, Some, None, ◌==◌, ◌||◌, if◌then◌else◌, length}
+use Rattle.std.specs.Prelude.{ℕ, ◌+◌, ◌/◌, ◌%◌, ◌^◌, Bool, List, [], ◌∷◌, slice_index, slice_set, Option, Some, None}
+use Rattle.std.specs.Prelude.{◌==◌, ◌||◌, if◌then◌else◌, length}
 use Rattle.bpf_mem.specs.declared.regions.TheConstants.{WINDOW_BASE, STACK_END}
 use Rattle.bpf_mem.specs.Memory.{Memory, load, store}
-use Rattle.bpf_insn.specs.declared.opcodes.TheConstants.{LD, LDX, ST, ALU, JMP, JMP32, ALU64, END, JA, CALL, EXIT, W, H, B, MEMSX}
+use Rattle.bpf_insn.specs.declared.opcodes.TheConstants.{LD, LDX, ST, ALU, JMP, JMP32, ALU64, END, JA, CALL, EXIT, W, H}
+use Rattle.bpf_insn.specs.declared.opcodes.TheConstants.{B, MEMSX}
 use Rattle.bpf_insn.specs.declared.insn.Insn.{Insn}
 use Rattle.bpf_insn.specs.Slots.{insn_at, word}
 use Rattle.bpf_insn.specs.Forms.{class, by_register, operation}

@@ -1,8 +1,10 @@
 -- Results of arithmetic on words of 64 and of 32 bits, as sums, products, quotients and remainders
 -- (RFC 9669, sections 4.1 and 4.2). The width b is 64 or 32.
 -- Wrapping of the least number divided by -1 is this project's own reading.
-use Rattle.std.specs.Prelude.{ℕ, ◌+◌, ◌-◌, ◌*◌, ◌/◌, ◌%◌, ◌^◌, Bool, nat_lt, nat_le, bit_and, bit_or, bit_xor, ◌==◌, not, if◌then◌else◌}
-use Rattle.bpf_insn.specs.declared.opcodes.TheConstants.{ADD, SUB, MUL, DIV, OR, AND, LSH, RSH, NEG, MOD, XOR, MOV, JEQ, JGT, JGE, JSET, JNE, JSGT, JSGE, JLT, JLE, JSLT, END_LE}
+use Rattle.std.specs.Prelude.{ℕ, ◌+◌, ◌-◌, ◌*◌, ◌/◌, ◌%◌, ◌^◌, Bool, nat_lt, nat_le, bit_and, bit_or, bit_xor, ◌==◌}
+use Rattle.std.specs.Prelude.{not, if◌then◌else◌}
+use Rattle.bpf_insn.specs.declared.opcodes.TheConstants.{ADD, SUB, MUL, DIV, OR, AND, LSH, RSH, NEG, MOD, XOR, MOV, JEQ}
+use Rattle.bpf_insn.specs.declared.opcodes.TheConstants.{JGT, JGE, JSET, JNE, JSGT, JSGE, JLT, JLE, JSLT, END_LE}
 use Rattle.std.specs.Int.{w16, w32, w64, swap_bytes}
 
 -- the low bits of a number

@@ -4,7 +4,8 @@ ghost use Rattle.bpf_mem.specs.Memory.{Memory, load, store};
 ghost use Rattle.bpf_insn.specs.Slots.{word, raw_imm, insn_at};
 ghost use Rattle.bpf_insn.specs.Sound.{IsSound};
 ghost use Rattle.bpf_insn.specs.Loading.{begins};
-ghost use Rattle.bpf_machine.specs.Steps.{reg, operand, computed, access_address, jump_target, access_size, set_step, jump_step, load_step, store_step, insn_step, take_step};
+ghost use Rattle.bpf_machine.specs.Steps.{reg, operand, computed, access_address, jump_target, access_size, set_step};
+ghost use Rattle.bpf_machine.specs.Steps.{jump_step, load_step, store_step, insn_step, take_step};
 ghost use Rattle.bpf_machine.specs.Does.{Does, machine};
 
 use crate::compute::{access_size, computed, is_taken, load_result};

@@ -1,7 +1,8 @@
 // Arithmetic with signs, and the parts of words.
 ghost use Rattle.std.specs.Prelude.{◌≡◌, ◌<◌, ◌%◌, ◌^◌};
 ghost use Rattle.bpf_insn.specs.Slots.{word};
-ghost use Rattle.bpf_machine.specs.Words.{low, extended, signed_quotient, signed_remainder, shifted_signed, is_below, low_bits, swapped_octets};
+ghost use Rattle.bpf_machine.specs.Words.{low, extended, signed_quotient, signed_remainder, shifted_signed, is_below};
+ghost use Rattle.bpf_machine.specs.Words.{low_bits, swapped_octets};
 
 use bpf_insn::Insn;
 

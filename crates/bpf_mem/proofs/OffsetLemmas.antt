@@ -1,16 +1,22 @@
 -- Ranges as offsets in the octets of a room.
-use Rattle.std.proofs.Common.{◌≡◌, ◌≢◌, refl, sym, ap, ◌∙◌, subst, ℕ, zero, suc, ◌<◌, get_or, ◌+◌, ◌-◌, ◌≤◌, true, false, List, [], ◌∷◌, length, take, drop, replicate, Option, Some, None, is_some, IsSome, unwrap_or, option_map, arith, inl, inr}
+use Rattle.std.proofs.Common.{◌≡◌, ◌≢◌, refl, sym, ap, ◌∙◌, subst, ℕ, zero, suc, ◌<◌, get_or, ◌+◌, ◌-◌, ◌≤◌, true}
+use Rattle.std.proofs.Common.{false, List, [], ◌∷◌, length, take, drop, replicate, Option, Some, None, is_some, IsSome}
+use Rattle.std.proofs.Common.{unwrap_or, option_map, arith, inl, inr}
 use Rattle.std.specs.Prelude.{◌==◌}
 use Rattle.std.specs.Int.{bytes_low_first}
 use Rattle.std.proofs.lemmas.Bool.{cases_Bool, eqb-true, eqb-false, and_from, le-leb}
 use Rattle.std.proofs.lemmas.Bool.Decides.{nat_tests}
-use Rattle.std.proofs.lemmas.List.{take-append-drop, length-take-le, length-drop, take-replicate, drop-replicate, nil_from_length, take-take}
+use Rattle.std.proofs.lemmas.List.{take-append-drop, length-take-le, length-drop, take-replicate, drop-replicate}
+use Rattle.std.proofs.lemmas.List.{nil_from_length, take-take}
 use Rattle.xb_words.specs.Octets.{AreOctets}
 use Rattle.bpf_mem.specs.declared.regions.TheConstants.{STACK_BASE, HEAP_BASE, WINDOW_BASE}
-use Rattle.bpf_mem.specs.Memory.{Memory, IsMemory, IsAccessSize, store, replaced, is_within, region_part, octets_at, writable_at, with_octets, fresh}
+use Rattle.bpf_mem.specs.Memory.{Memory, IsMemory, IsAccessSize, store, replaced, is_within, region_part, octets_at}
+use Rattle.bpf_mem.specs.Memory.{writable_at, with_octets, fresh}
 use Rattle.bpf_mem.specs.Offsets.{offset_in, writable_offset, memory_of, overwritten, lent}
 use Rattle.bpf_mem.proofs.NumberLemmas.{take-bytes_low_first, length-bytes_low_first}
-use Rattle.bpf_mem.proofs.PartLemmas.{overwritten-over, overwritten-replaced, length-replaced, take-over-front, drop-over-front, take-over-back, drop-over-back, region_part-take, region_part-drop}
+use Rattle.bpf_mem.proofs.PartLemmas.{overwritten-over, overwritten-replaced, length-replaced, take-over-front}
+use Rattle.bpf_mem.proofs.PartLemmas.{drop-over-front, take-over-back, drop-over-back, region_part-take}
+use Rattle.bpf_mem.proofs.PartLemmas.{region_part-drop}
 
 -- what the offset of a range says of memory
 pub record IsOffset (os window : List ℕ) (addr n at : ℕ) : Type 0 where

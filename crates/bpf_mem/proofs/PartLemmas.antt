@@ -1,7 +1,9 @@
 -- Parts of a list that is cut in two: `take k` is the stack, `drop k` the heap.
-use Rattle.std.proofs.Common.{◌≡◌, sym, ap, ◌∙◌, ℕ, ◌+◌, ◌-◌, ◌≤◌, List, ◌++◌, length, take, drop, replicate, arith, append_assoc}
+use Rattle.std.proofs.Common.{◌≡◌, sym, ap, ◌∙◌, ℕ, ◌+◌, ◌-◌, ◌≤◌, List, ◌++◌, length, take, drop, replicate, arith}
+use Rattle.std.proofs.Common.{append_assoc}
 use Rattle.std.proofs.lemmas.Grind.{common_steps}
-use Rattle.std.proofs.lemmas.List.{take-append-drop, drop-append-le, length-take-le, take-take, drop-take, drop-drop, drop-replicate, length-replicate, replicate-append-replicate, take_at, drop_at}
+use Rattle.std.proofs.lemmas.List.{take-append-drop, drop-append-le, length-take-le, take-take, drop-take, drop-drop}
+use Rattle.std.proofs.lemmas.List.{drop-replicate, length-replicate, replicate-append-replicate, take_at, drop_at}
 use Rattle.std.proofs.Math.Seq.{take-add}
 use Rattle.bpf_mem.specs.Memory.{replaced, region_part}
 use Rattle.bpf_mem.specs.Offsets.{overwritten}

@@ -1,9 +1,11 @@
 -- The memory of a program: a stack, a heap and a window that is only read.
 -- RFC 9669 leaves memory to the platform: regions, addresses and sizes are this project's own.
-use Rattle.std.specs.Prelude.{◌≡◌, ℕ, ◌+◌, ◌-◌, ◌*◌, ◌≤◌, ◌⊎◌, Bool, List, [], ◌∷◌, ◌++◌, length, take, drop, replicate, Option, Some, None, option_map, nat_le, ◌==◌, ◌&&◌, if◌then◌else◌}
+use Rattle.std.specs.Prelude.{◌≡◌, ℕ, ◌+◌, ◌-◌, ◌*◌, ◌≤◌, ◌⊎◌, Bool, List, [], ◌∷◌, ◌++◌, length, take, drop, replicate}
+use Rattle.std.specs.Prelude.{Option, Some, None, option_map, nat_le, ◌==◌, ◌&&◌, if◌then◌else◌}
 use Rattle.std.specs.Int.{bytes_low_first}
 use Rattle.xb_words.specs.Octets.{AreOctets}
-use Rattle.bpf_mem.specs.declared.regions.TheConstants.{STACK_BASE, HEAP_BASE, WINDOW_BASE, STACK_SIZE, HEAP_SIZE, MAX_WINDOW}
+use Rattle.bpf_mem.specs.declared.regions.TheConstants.{STACK_BASE, HEAP_BASE, WINDOW_BASE, STACK_SIZE, HEAP_SIZE}
+use Rattle.bpf_mem.specs.declared.regions.TheConstants.{MAX_WINDOW}
 
 -- what a program may read, as three lists of octets; it may write the first two
 pub record Memory : Type 0 where

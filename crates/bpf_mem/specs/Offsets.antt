@@ -1,5 +1,6 @@
 -- Ranges as offsets in the octets of a room: the stack, then the heap (for private calls, and for `Lending`).
-use Rattle.std.specs.Prelude.{ℕ, ◌+◌, ◌-◌, List, ◌++◌, length, take, drop, Option, Some, None, unwrap_or, ◌==◌, if◌then◌else◌}
+use Rattle.std.specs.Prelude.{ℕ, ◌+◌, ◌-◌, List, ◌++◌, length, take, drop, Option, Some, None, unwrap_or, ◌==◌}
+use Rattle.std.specs.Prelude.{if◌then◌else◌}
 use Rattle.bpf_mem.specs.declared.regions.TheConstants.{STACK_BASE, HEAP_BASE, STACK_SIZE, HEAP_SIZE}
 use Rattle.bpf_mem.specs.Memory.{Memory, is_within, with_octets}
 

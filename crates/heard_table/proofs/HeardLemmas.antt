@@ -1,5 +1,7 @@
 -- The steps make the table that a stream announces.
-use Rattle.std.proofs.Common.{◌≡◌, ℕ, ◌+◌, Bool, true, false, cond, not, ◌&&◌, List, [], ◌∷◌, ◌++◌, length, map, fold, find, Option, Some, None, Result, Ok, Err, if◌then◌else◌, refl, sym, ◌∙◌, ap, arith, length-append}
+use Rattle.std.proofs.Common.{◌≡◌, ℕ, ◌+◌, Bool, true, false, cond, not, ◌&&◌, List, [], ◌∷◌, ◌++◌, length, map, fold}
+use Rattle.std.proofs.Common.{find, Option, Some, None, Result, Ok, Err, if◌then◌else◌, refl, sym, ◌∙◌, ap, arith}
+use Rattle.std.proofs.Common.{length-append}
 use Rattle.std.specs.Prelude.{◌==◌}
 use Rattle.std.specs.List.{concat}
 use Rattle.std.specs.Option.{option_and_then, option_map}
@@ -9,9 +11,11 @@ use Rattle.xb_words.specs.Table.{with_value, without}
 use Rattle.xb_values.specs.Prefixes.{Sections, prefix_cmp, prefix_at, prefix_size, are_prefixes}
 use Rattle.xb_wire.specs.Messages.{Update, update_parts, lengths_fit, message_kind, message_body, split}
 use Rattle.xb_wire.specs.declared.numbers.TheConstants.{UPDATE}
-use Rattle.bgp_update.specs.Heard.{heard, after_message, after_update, withdrawn_from, announced_in, is_readable, is_refused}
+use Rattle.bgp_update.specs.Heard.{heard, after_message, after_update, withdrawn_from, announced_in, is_readable}
+use Rattle.bgp_update.specs.Heard.{is_refused}
 use Rattle.bgp_update.specs.Walks.{found_message, messages_from, prefixes_from}
-use Rattle.heard_table.specs.Steps.{withdraw, announce, parts_step, update_step, message_step, after_messages, or_refused}
+use Rattle.heard_table.specs.Steps.{withdraw, announce, parts_step, update_step, message_step, after_messages}
+use Rattle.heard_table.specs.Steps.{or_refused}
 
 -- the table after octets that are whole
 abbrev if_whole : {A : Type 0} → Bool → A → Option A

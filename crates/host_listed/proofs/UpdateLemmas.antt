@@ -1,5 +1,6 @@
 -- What an UPDATE leaves.
-use Rattle.std.proofs.Common.{◌≡◌, ◌≤◌, ◌<◌, ◌-◌, refl, sym, ◌∙◌, ap, subst, ℕ, Bool, true, false, List, [], ◌∷◌, ◌++◌, fold, filter, length, arith, get_or, Vec, Option, Some, None}
+use Rattle.std.proofs.Common.{◌≡◌, ◌≤◌, ◌<◌, ◌-◌, refl, sym, ◌∙◌, ap, subst, ℕ, Bool, true, false, List, [], ◌∷◌, ◌++◌}
+use Rattle.std.proofs.Common.{fold, filter, length, arith, get_or, Vec, Option, Some, None}
 use Rattle.std.specs.Prelude.{if◌then◌else◌, not, nat_le, slice_index_or}
 use Rattle.std.specs.List.{slice_set, list_any}
 use Rattle.std.specs.declared.alloc.Global.{Global}
@@ -26,7 +27,9 @@ use Rattle.spk_model.specs.declared.host.Setup.{Setup}
 use Rattle.spk_model.specs.Choosing.{Trace}
 use Rattle.spk_model.specs.Sources.{side_of}
 use Rattle.spk_model.specs.Exporting.{accepted}
-use Rattle.spk_model.specs.Routing.{Routing, Routed, Tables, no_tables, at_tables, ran, set_routes, without_all, announce, announce_one, drop_all, receive_if, receive_route, route_in, routes_of, settle, settle_all, update, withdraw}
+use Rattle.spk_model.specs.Routing.{Routing, Routed, Tables, no_tables, at_tables, ran, set_routes, without_all}
+use Rattle.spk_model.specs.Routing.{announce, announce_one, drop_all, receive_if, receive_route, route_in, routes_of}
+use Rattle.spk_model.specs.Routing.{settle, settle_all, update, withdraw}
 use Rattle.spk_routes.proofs.SetLemmas.{has_key-set_of, filter-same}
 use Rattle.host_listed.specs.declared.routing.Core.{Core}
 use Rattle.host_listed.specs.Meaning.{Does, IsReady, setup_of, routing_of, routed}

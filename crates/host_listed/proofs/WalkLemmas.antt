@@ -1,5 +1,6 @@
 -- Walks over tables by their prefixes, and the sets that they make.
-use Rattle.std.proofs.Common.{◌≡◌, ◌<◌, ◌≤◌, ◌+◌, ◌-◌, get_or, refl, sym, ◌∙◌, ap, subst, ℕ, suc, List, [], ◌∷◌, ◌++◌, drop, fold, flat_map, length, arith, Option, Some, None}
+use Rattle.std.proofs.Common.{◌≡◌, ◌<◌, ◌≤◌, ◌+◌, ◌-◌, get_or, refl, sym, ◌∙◌, ap, subst, ℕ, suc, List, [], ◌∷◌, ◌++◌}
+use Rattle.std.proofs.Common.{drop, fold, flat_map, length, arith, Option, Some, None}
 use Rattle.std.specs.Map.{keys_of}
 use Rattle.std.specs.Option.{option_map}
 use Rattle.std.specs.Prelude.{slice_get}
@@ -12,7 +13,7 @@ use Rattle.bgp_fsm.specs.Sessions.{Owned}
 use Rattle.spk_model.specs.declared.host.Setup.{Setup}
 use Rattle.spk_model.specs.Routing.{Routed, Tables, no_tables, set_tables, settle, settle_all, lose}
 use Rattle.spk_model.specs.Turning.{known_prefixes}
-use Rattle.spk_routes.proofs.SetLemmas.{prefix_total}
+use Rattle.xb_values.proofs.PrefixLemmas.{prefix_total}
 use Rattle.spk_routes.proofs.StepLemmas.{drop-at}
 use Rattle.host_listed.specs.declared.routing.Core.{Core}
 use Rattle.host_listed.specs.Meaning.{Does, setup_of, routed}

@@ -1,5 +1,6 @@
 // What an UPDATE without fault does to the routes.
-ghost use Rattle.std.specs.Prelude.{◌≡◌, ◌≤◌, ◌++◌, ◌==◌, not, length, fold, true, Some, None, IfOk, OnOk, OnErr, MatchResult};
+ghost use Rattle.std.specs.Prelude.{◌≡◌, ◌≤◌, ◌++◌, ◌==◌, not, length, fold, true, Some, None, IfOk, OnOk, OnErr};
+ghost use Rattle.std.specs.Prelude.{MatchResult};
 ghost use Rattle.xb_words.specs.Table.{set_of};
 ghost use Rattle.xb_wire.specs.Messages.{Update};
 ghost use Rattle.xb_wire.specs.declared.numbers.TheConstants.{MAX_BODY};

@@ -6,12 +6,13 @@ use Rattle.xb_words.specs.Table.{value_at, with_value, without, IsRising}
 use Rattle.xb_words.proofs.TableLemmas.{AllByRecursion-with_value, AllByRecursion-without, IsRising-with_value}
 use Rattle.xb_words.proofs.TableLemmas.{IsRising-without, without-absent}
 use Rattle.xb_values.specs.Prefixes.{Prefix, prefix_cmp}
+use Rattle.xb_values.proofs.PrefixLemmas.{prefix_total}
 use Rattle.xb_wire.specs.declared.numbers.TheConstants.{MAX_SECTION}
 use Rattle.out_sorted.specs.Told.{Told}
 use Rattle.out_sorted.specs.Spans.{Span, is_within}
 use Rattle.out_sorted.specs.Slots.{Slot, Slots, IsSlot, IsSound, IsKept, AllInSpan, adv_in, told_of, advertised}
 use Rattle.out_sorted.specs.Slots.{taken_back, was_told, is_gone, is_fresh}
-use Rattle.out_sorted.proofs.SlotLemmas.{prefix_total, value_at-part, part-with_value-some, part-with_value-none}
+use Rattle.out_sorted.proofs.SlotLemmas.{value_at-part, part-with_value-some, part-with_value-none}
 use Rattle.out_sorted.proofs.SlotLemmas.{part-with_value-same, part-without, part-without-same, AllInSpan-with_value}
 use Rattle.out_sorted.proofs.SlotLemmas.{AllInSpan-wider}
 

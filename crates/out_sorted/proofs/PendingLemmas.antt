@@ -12,6 +12,7 @@ use Rattle.std.proofs.lemmas.Cmp.{tied_itself}
 use Rattle.xb_words.specs.Table.{value_at, with_value, with_key, with_keys, set_of, first_of, IsRising}
 use Rattle.xb_words.proofs.TableSplitLemmas.{IsRising-head, IsRising-tail}
 use Rattle.xb_values.specs.Prefixes.{Prefix, Sections, prefix_cmp, prefix_octets}
+use Rattle.xb_values.proofs.PrefixLemmas.{prefix_total}
 use Rattle.xb_domain.specs.declared.output.Packing.TheVariants.{Sorted}
 use Rattle.xb_wire.specs.Messages.{update_message}
 use Rattle.xb_wire.specs.declared.numbers.TheConstants.{EMPTY_UPDATE, MAX_MESSAGE}
@@ -21,7 +22,7 @@ use Rattle.out_sorted.specs.Spans.{Span}
 use Rattle.out_sorted.specs.Slots.{Slot, Slots, IsSlot, IsSound, adv_in, told_in, with_front, keys_where, is_gone}
 use Rattle.out_sorted.specs.Slots.{is_fresh}
 use Rattle.out_sorted.specs.Sending.{announcement_from, withdrawal_from}
-use Rattle.out_sorted.proofs.SlotLemmas.{Above, prefix_total, value_at-part, above_part, IsRising-part}
+use Rattle.out_sorted.proofs.SlotLemmas.{Above, value_at-part, above_part, IsRising-part}
 
 less_back : (p q : Prefix) → prefix_cmp p q ≡ Less → prefix_cmp q p ≡ Greater
 less_back p q less = prefix_total.antisymm q p ∙ ap ordering_reverse less

@@ -11,6 +11,7 @@ use Rattle.std.proofs.lemmas.Slice.Eq.{bytes_eq-Decides}
 use Rattle.xb_words.specs.Table.{value_at, with_value, without, first_of, IsRising}
 use Rattle.xb_words.proofs.TableLemmas.{AllByRecursion-without, IsRising-without, value_at-some}
 use Rattle.xb_values.specs.Prefixes.{Prefix, Sections, prefix_cmp, prefix_octets}
+use Rattle.xb_values.proofs.PrefixLemmas.{prefix_total}
 use Rattle.xb_wire.specs.Messages.{update_message}
 use Rattle.xb_wire.specs.declared.numbers.TheConstants.{EMPTY_UPDATE, MAX_MESSAGE, MAX_SECTION}
 use Rattle.bgp_write.specs.Packings.{Packed, packed_message, with_prefix, withdrawing, announcing}
@@ -20,7 +21,7 @@ use Rattle.out_sorted.specs.Slots.{Slot, Slots, IsSlot, IsSound, Keeps, adv_in, 
 use Rattle.out_sorted.specs.Slots.{is_fresh}
 use Rattle.out_sorted.specs.Sending.{announcement_from, announcement_of, formed_by, withdrawal_from, withdrawal_of}
 use Rattle.out_sorted.specs.Sending.{to_announce, to_withdraw}
-use Rattle.out_sorted.proofs.SlotLemmas.{prefix_total, value_at-part, part-with_value-some, part-with_value-same}
+use Rattle.out_sorted.proofs.SlotLemmas.{value_at-part, part-with_value-some, part-with_value-same}
 use Rattle.out_sorted.proofs.SlotLemmas.{part-without, part-without-same, first-where, keys_where-with_value}
 use Rattle.out_sorted.proofs.SlotLemmas.{keys_where-without, AllInSpan-with_value, section_of-some}
 use Rattle.out_sorted.proofs.ChangeLemmas.{AllInSpan-without, written_is_sound}

@@ -4,7 +4,6 @@ use Rattle.std.proofs.Common.{◌≡◌, ℕ, Bool, true, false, inl, inr, List,
 use Rattle.std.proofs.Common.{ap, subst, find, is_some, Bor}
 use Rattle.std.specs.BTreeMap.{is_at}
 use Rattle.std.specs.BTreeMap.Range.{entries_between}
-use Rattle.std.specs.Cmp.{IsTotalOrder}
 use Rattle.std.specs.Map.{set_value}
 use Rattle.std.specs.Map.Iter.{deref_pair}
 use Rattle.std.specs.Option.{option_map, option_and_then}
@@ -13,26 +12,16 @@ use Rattle.std.specs.declared.cmp.Ordering.{Ordering}
 use Rattle.std.specs.declared.cmp.Ordering.TheVariants.{Less, Equal, Greater}
 use Rattle.std.specs.declared.ops.Bound.TheVariants.{Included, Excluded, Unbounded}
 use Rattle.std.proofs.lemmas.Bool.{cases_Bool, and_parts, and_from}
-use Rattle.std.proofs.lemmas.Cmp.{nat_cmp_total, on_total, then_total, tied_itself}
-use Rattle.std.proofs.lemmas.Map.Lookups.{exact_pairs, exact_unsigned}
+use Rattle.std.proofs.lemmas.Cmp.{tied_itself}
 use Rattle.xb_words.specs.Table.{value_at, with_value, without, entries_after, entry_after, first_of, IsRising}
 use Rattle.xb_words.proofs.TableLemmas.{AllByRecursion-with_value, without-absent}
 use Rattle.xb_words.proofs.TableSplitLemmas.{Each, IsRising-head, IsRising-tail, IsRising-cons, Each-trans, Each-congr}
 use Rattle.xb_words.proofs.TableSplitLemmas.{value_at-above}
 use Rattle.xb_values.specs.Prefixes.{Prefix, Sections, prefix_cmp}
+use Rattle.xb_values.proofs.PrefixLemmas.{prefix_total, prefix_exact}
 use Rattle.bgp_write.specs.Pending.{section_of}
 use Rattle.out_sorted.specs.Spans.{Span, is_within}
 use Rattle.out_sorted.specs.Slots.{Slot, Slots, adv_in, part, with_front, without_adv, keys_where, AllInSpan}
-
--- the order of prefixes is total, and equal prefixes are one
-pub prefix_total : IsTotalOrder prefix_cmp
-prefix_total =
-    then_total (on_total (λ (p : Prefix). p.addr) nat_cmp_total) (on_total (λ (p : Prefix). p.len) nat_cmp_total)
-
-pub prefix_exact : (a b : Prefix) → prefix_cmp a b ≡ Equal → a ≡ b
-prefix_exact a b e =
-    ap (λ (x : ℕ × ℕ). record { addr = x.0; len = x.1 })
-    (exact_pairs nat_cmp nat_cmp exact_unsigned exact_unsigned (a.addr, a.len) (b.addr, b.len) e)
 
 -- an ordering is one of three
 by_ordering : {P : Type 0} (r : Ordering) → (r ≡ Less → P) → (r ≡ Equal → P) → (r ≡ Greater → P) → P

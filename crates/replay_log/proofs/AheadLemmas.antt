@@ -1,8 +1,10 @@
 -- Octets of a log that were read ahead.
-use Rattle.std.proofs.Common.{◌≡◌, refl, sym, ap, ◌∙◌, subst, inl, inr, ℕ, ◌+◌, ◌-◌, ◌<◌, ◌≤◌, min, Bool, List, [], ◌∷◌, ◌++◌, length, take, drop, Option, Some, None, IsNone, MatchOption, nat_lt, arith}
+use Rattle.std.proofs.Common.{◌≡◌, refl, sym, ap, ◌∙◌, subst, inl, inr, ℕ, ◌+◌, ◌-◌, ◌<◌, ◌≤◌, min, Bool, List, [], ◌∷◌}
+use Rattle.std.proofs.Common.{◌++◌, length, take, drop, Option, Some, None, IsNone, MatchOption, nat_lt, arith}
 use Rattle.std.specs.List.{slice_range}
 use Rattle.std.proofs.lemmas.Bool.{cases_lt}
-use Rattle.std.proofs.lemmas.List.{drop-drop, drop-take, drop_all, length-drop, length-take, take-append-drop, take-take, take_all}
+use Rattle.std.proofs.lemmas.List.{drop-drop, drop-take, drop_all, length-drop, length-take, take-append-drop}
+use Rattle.std.proofs.lemmas.List.{take-take, take_all}
 use Rattle.xb_io.specs.Causes.{Files, Reads, ReadsPart, IsMissing, file_named, told_file}
 use Rattle.replay_log.specs.declared.limits.TheConstants.{LINE_LIMIT, LOG_LIMIT}
 use Rattle.replay_log.specs.declared.part.Part.TheVariants.{TooLongPart, LastPart, WholePart}

@@ -1,5 +1,6 @@
 -- The event of a line fits the peers and the clock that the line was read for.
-use Rattle.std.proofs.Common.{◌≡◌, refl, subst, inl, inr, ℕ, ◌≤◌, ◌-◌, ◌^◌, Bool, true, false, ◌==◌, List, [], ◌∷◌, Option, Some, None, codes, nat_le, if◌then◌else◌, ◌⊎◌, arith}
+use Rattle.std.proofs.Common.{◌≡◌, refl, subst, inl, inr, ℕ, ◌≤◌, ◌-◌, ◌^◌, Bool, true, false, ◌==◌, List, [], ◌∷◌}
+use Rattle.std.proofs.Common.{Option, Some, None, codes, nat_le, if◌then◌else◌, ◌⊎◌, arith}
 use Rattle.std.specs.Str.{bytes_eq}
 use Rattle.std.proofs.lemmas.Bool.{cases_Bool, leb-true}
 use Rattle.xb_words.specs.Optional.{◌>>=◌}
@@ -7,7 +8,8 @@ use Rattle.xb_words.proofs.OptionalLemmas.{bind-some}
 use Rattle.xb_domain.specs.Events.{Event, start, stop, up, down, octets, time, room, drain, rescan}
 use Rattle.xb_values.specs.Readers.{split_on, number_up_to}
 use Rattle.xb_values.proofs.ReaderLemmas.{number_up_to-le}
-use Rattle.replay_log.specs.Lines.{blank_line, says, IsFor, at_least, peer_word, count_word, time_word, some_octets, peer_event, one_argument, two_arguments, event_of_words, line_of}
+use Rattle.replay_log.specs.Lines.{blank_line, says, IsFor, at_least, peer_word, count_word, time_word, some_octets}
+use Rattle.replay_log.specs.Lines.{peer_event, one_argument, two_arguments, event_of_words, line_of}
 
 at_least-bounds : (least most n : ℕ) (text : List ℕ) (o : Option ℕ) → o ≡ number_up_to most text → at_least least o ≡ Some n → (least ≤ n) × (n ≤ most)
 at_least-bounds least most n text None is e = cc e

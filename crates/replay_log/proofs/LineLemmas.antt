@@ -1,5 +1,7 @@
 -- The event of a line's words, by the first of them.
-use Rattle.std.proofs.Common.{◌≡◌, refl, sym, ap, ◌∙◌, inl, inr, ℕ, ◌+◌, ◌-◌, ◌*◌, ◌^◌, ◌<◌, Bool, true, false, ◌==◌, ◌&&◌, if◌then◌else◌, List, [], ◌∷◌, length, Option, Some, None, option_map, is_some, arith, codes, get_or, suc}
+use Rattle.std.proofs.Common.{◌≡◌, refl, sym, ap, ◌∙◌, inl, inr, ℕ, ◌+◌, ◌-◌, ◌*◌, ◌^◌, ◌<◌, Bool, true, false, ◌==◌}
+use Rattle.std.proofs.Common.{◌&&◌, if◌then◌else◌, List, [], ◌∷◌, length, Option, Some, None, option_map, is_some}
+use Rattle.std.proofs.Common.{arith, codes, get_or, suc}
 use Rattle.std.specs.List.{list_all}
 use Rattle.std.specs.Str.{bytes_eq}
 use Rattle.std.proofs.lemmas.Bool.{ne_eqb, eq-eqb, eqb-true}
@@ -8,7 +10,8 @@ use Rattle.xb_words.specs.Optional.{◌>>=◌}
 use Rattle.xb_domain.specs.Events.{Event, octets, time, room, rescan}
 use Rattle.xb_values.specs.Readers.{split_on, is_digit, number_up_to, hex_value, read_hex}
 use Rattle.xb_values.proofs.ReaderLemmas.{split_on-cases, number_up_to-none}
-use Rattle.replay_log.specs.Lines.{blank_line, says, at_least, peer_word, count_word, time_word, some_octets, peer_event, event_of_words, line_of}
+use Rattle.replay_log.specs.Lines.{blank_line, says, at_least, peer_word, count_word, time_word, some_octets}
+use Rattle.replay_log.specs.Lines.{peer_event, event_of_words, line_of}
 
 equal-bytes_eq : (word text : List ℕ) → bytes_eq word text ≡ true → word ≡ text
 equal-bytes_eq word text e = (bytes_eq-Decides word text).0 e

@@ -1,5 +1,6 @@
 -- A log by its next line.
-use Rattle.std.proofs.Common.{◌≡◌, refl, sym, ap, ◌∙◌, inl, inr, ℕ, suc, ◌+◌, ◌-◌, ◌<◌, ◌≤◌, Bool, true, false, ◌==◌, nat_lt, List, [], ◌∷◌, length, take, drop, Option, Some, None, arith}
+use Rattle.std.proofs.Common.{◌≡◌, refl, sym, ap, ◌∙◌, inl, inr, ℕ, suc, ◌+◌, ◌-◌, ◌<◌, ◌≤◌, Bool, true, false, ◌==◌}
+use Rattle.std.proofs.Common.{nat_lt, List, [], ◌∷◌, length, take, drop, Option, Some, None, arith}
 use Rattle.std.specs.List.{position_or_len}
 use Rattle.std.proofs.lemmas.Bool.{cases_Bool, cases_lt, eqb-true, lt-ltb, le-ltb}
 use Rattle.std.proofs.lemmas.List.{length-take-le, length-drop, drop-drop, drop_all, take-take}
@@ -7,7 +8,8 @@ use Rattle.xb_words.specs.Cut.{Pieces, IsSize}
 use Rattle.xb_words.proofs.CutLemmas.{cut-none, cut-some}
 use Rattle.replay_log.specs.Lines.{Line, line_of}
 use Rattle.replay_log.specs.declared.limits.TheConstants.{LINE_LIMIT, LOG_LIMIT}
-use Rattle.replay_log.specs.Logs.{Log, ended, line_then, after_line, whole_log, line_clock, short_line, last_line, log_from, line_size, lines, log_at}
+use Rattle.replay_log.specs.Logs.{Log, ended, line_then, after_line, whole_log, line_clock, short_line, last_line}
+use Rattle.replay_log.specs.Logs.{log_from, line_size, lines, log_at}
 use Rattle.replay_log.specs.Readings.{last_in, by_size, next_at, log_by}
 
 line_size-bounds : (s : List ℕ) (n : ℕ) → line_size s ≡ Some n → (0 < n) × (n ≤ length s)

@@ -1,5 +1,7 @@
 -- A line that is read octet by octet, and how its octets are found.
-use Rattle.std.proofs.Common.{◌≡◌, refl, sym, ap, ◌∙◌, inl, inr, ℕ, suc, ◌+◌, ◌-◌, ◌<◌, ◌≤◌, Bool, true, false, ◌==◌, nat_lt, if◌then◌else◌, List, [], ◌∷◌, ◌++◌, length, take, drop, get_or, Option, Some, None, slice_get, IfSome, MatchOption, arith, length-append, drop-cons, zero-add}
+use Rattle.std.proofs.Common.{◌≡◌, refl, sym, ap, ◌∙◌, inl, inr, ℕ, suc, ◌+◌, ◌-◌, ◌<◌, ◌≤◌, Bool, true, false, ◌==◌}
+use Rattle.std.proofs.Common.{nat_lt, if◌then◌else◌, List, [], ◌∷◌, ◌++◌, length, take, drop, get_or, Option, Some}
+use Rattle.std.proofs.Common.{None, slice_get, IfSome, MatchOption, arith, length-append, drop-cons, zero-add}
 use Rattle.std.specs.List.{position_or_len}
 use Rattle.std.proofs.lemmas.Bool.{cases_Bool, cases_lt, eqb-true, eqb-false, eq-eqb, ne_eqb, lt-ltb, le-ltb}
 use Rattle.std.proofs.lemmas.List.{append_assoc, append-nil, take_at, drop_all, length-take, get_or-take}
@@ -7,7 +9,8 @@ use Rattle.replay_log.specs.declared.limits.TheConstants.{LINE_LIMIT, LOG_LIMIT}
 use Rattle.replay_log.specs.Logs.{line_size}
 use Rattle.replay_log.specs.declared.reader.Got.{Got}
 use Rattle.replay_log.specs.declared.reader.Got.TheVariants.{Line, End, LineTooLong, TooLong, Failed}
-use Rattle.replay_log.specs.Readings.{Next, Reading, got_view, scan, next_line, next_end, next_line_too_long, next_log_too_long, by_size, next_in, next_at}
+use Rattle.replay_log.specs.Readings.{Next, Reading, got_view, scan, next_line, next_end, next_line_too_long}
+use Rattle.replay_log.specs.Readings.{next_log_too_long, by_size, next_in, next_at}
 
 -- the index of the first line end
 abbrev pub end_in : List ℕ → ℕ

@@ -1,5 +1,6 @@
 -- The event log: lines that end with the octet 0A (this project's own).
-use Rattle.std.specs.Prelude.{ℕ, ◌+◌, ◌-◌, Bool, List, [], ◌∷◌, length, take, drop, position, Option, Some, None, nat_lt, ◌==◌, if◌then◌else◌}
+use Rattle.std.specs.Prelude.{ℕ, ◌+◌, ◌-◌, Bool, List, [], ◌∷◌, length, take, drop, position, Option, Some, None}
+use Rattle.std.specs.Prelude.{nat_lt, ◌==◌, if◌then◌else◌}
 use Rattle.xb_words.specs.Cut.{Pieces, cut}
 use Rattle.xb_domain.specs.Events.{Event, time}
 use Rattle.replay_log.specs.declared.limits.TheConstants.{LOG_LIMIT, LINE_LIMIT}

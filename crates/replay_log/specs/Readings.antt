@@ -1,5 +1,6 @@
 -- What a reader of a log has read, and what its next line is (this project's own).
-use Rattle.std.specs.Prelude.{◌≡◌, ℕ, ◌+◌, ◌-◌, ◌<◌, ◌≤◌, Bool, List, [], ◌∷◌, ◌++◌, length, take, drop, Option, Some, None, MatchOption, nat_lt, ◌==◌, if◌then◌else◌}
+use Rattle.std.specs.Prelude.{◌≡◌, ℕ, ◌+◌, ◌-◌, ◌<◌, ◌≤◌, Bool, List, [], ◌∷◌, ◌++◌, length, take, drop, Option, Some}
+use Rattle.std.specs.Prelude.{None, MatchOption, nat_lt, ◌==◌, if◌then◌else◌}
 use Rattle.xb_io.specs.Causes.{Files, file_named}
 use Rattle.replay_log.specs.declared.limits.TheConstants.{LOG_LIMIT, LINE_LIMIT}
 use Rattle.replay_log.specs.Lines.{line_of}

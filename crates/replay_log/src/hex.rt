@@ -1,5 +1,6 @@
 //! Octets that are written as hexadecimal digits of either case, two digits each.
-ghost use Rattle.std.specs.Prelude.{◌≡◌, ◌+◌, ◌*◌, ◌++◌, ◌≤◌, length, Some, None, is_some, nat_lt, if◌then◌else◌, unwrap_or};
+ghost use Rattle.std.specs.Prelude.{◌≡◌, ◌+◌, ◌*◌, ◌++◌, ◌≤◌, length, Some, None, is_some, nat_lt, if◌then◌else◌};
+ghost use Rattle.std.specs.Prelude.{unwrap_or};
 ghost use Rattle.std.specs.Bool.{OnTrue};
 ghost use Rattle.std.specs.Option.{option_map};
 ghost use Rattle.xb_values.specs.Readers.{hex_value, read_hex};

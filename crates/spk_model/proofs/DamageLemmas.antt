@@ -28,7 +28,8 @@ use Rattle.spk_model.proofs.RowLemmas.{fault_row, down_row}
 use Rattle.spk_model.proofs.EarlierLemmas.{after, fold-after, act-after}
 use Rattle.spk_model.proofs.WaitLemmas.{wait_of-set_wait, set_wait-set_wait, refuse_ends}
 use Rattle.spk_model.proofs.PieceLemmas.{take_turns-dead, take_turns-message, take_turns-fault, octets_in-live}
-use Rattle.spk_model.proofs.PieceLemmas.{octets_in-pieces, front_fault_long}
+use Rattle.xb_wire.proofs.FaultLemmas.{front_fault_long}
+use Rattle.spk_model.proofs.PieceLemmas.{octets_in-pieces}
 use Rattle.spk_model.proofs.ReachedLemmas.{octets_in_long, waits_long}
 
 -- the later of two rests is left

@@ -8,9 +8,9 @@ use Rattle.std.proofs.lemmas.List.{append-nil, set_past, get_or_past, length-set
 use Rattle.std.proofs.lemmas.List.{take-append-le, drop-append-le}
 use Rattle.std.specs.Prelude.{if◌then◌else◌, nat_lt}
 use Rattle.xb_domain.specs.Outputs.{Output}
-use Rattle.xb_wire.specs.Messages.{Notification, message_size, front_fault, header_fault}
+use Rattle.xb_wire.specs.Messages.{Notification, message_size, front_fault}
 use Rattle.xb_wire.proofs.MessageLemmas.{message_size_is_size, message_size_is_stable}
-use Rattle.spk_model.proofs.HeaderLemmas.{header_fault-append}
+use Rattle.xb_wire.proofs.FaultLemmas.{message_size-fault, front_fault-append}
 use Rattle.bgp_fsm.specs.Sessions.{is_live}
 use Rattle.spk_model.specs.declared.host.Setup.{Setup}
 use Rattle.spk_model.specs.Choosing.{Trace}
@@ -26,41 +26,6 @@ use Rattle.spk_model.proofs.WaitLemmas.{wait_of-set_wait, set_wait-set_wait, mes
 by_option : {A : Type 0} {B : Type 0} (o : Option A) → (o ≡ None → B) → ((x : A) → o ≡ Some x → B) → B
 by_option None none some = none refl
 by_option (Some x) none some = some x refl
-
--- a header with a fault is whole
-fault_parts : (short : Bool) (fault : Option Notification) (f : Notification)
-    → (if short then None else fault) ≡ Some f → (short ≡ false) × (fault ≡ Some f)
-fault_parts true fault f e = let wrong : None ≡ Some f = e in cc wrong
-fault_parts false fault f e = (refl, e)
-
-fault_made : (short : Bool) (fault : Option Notification) (f : Notification)
-    → short ≡ false → fault ≡ Some f → (if short then None else fault) ≡ Some f
-fault_made true fault f e is = cc e
-fault_made false fault f e is = is
-
--- a fault at the front stays, whatever follows
-front_fault-append : (s t : List ℕ) (f : Notification) → front_fault s ≡ Some f → front_fault (s ++ t) ≡ Some f
-front_fault-append s t f e =
-    let p = fault_parts (nat_lt (length s) 19) (header_fault s) f e in
-    let long : 19 ≤ length s = ltb-false (length s) 19 p.0 in
-    let longer : 19 ≤ length (s ++ t) = omega (arith, long, length-append s t) in
-    fault_made (nat_lt (length (s ++ t)) 19) (header_fault (s ++ t)) f (le-ltb (length (s ++ t)) 19 longer)
-    (header_fault-append s t long ∙ p.1)
-
--- a whole header
-pub front_fault_long : (s : List ℕ) (f : Notification) → front_fault s ≡ Some f → 19 ≤ length s
-front_fault_long s f e = ltb-false (length s) 19 (fault_parts (nat_lt (length s) 19) (header_fault s) f e).0
-
--- octets with a fault at the front have no message there
-no_message : (short : Bool) (fault : Option Notification) (size : Option ℕ) (f : Notification)
-    → (if short then None else fault) ≡ Some f
-    → (if short then None else elim fault [ Some g ↦ None | None ↦ size ]) ≡ None
-no_message true fault size f e = refl
-no_message false None size f e = let wrong : None ≡ Some f = e in cc wrong
-no_message false (Some g) size f e = refl
-
-message_size-fault : (s : List ℕ) (f : Notification) → front_fault s ≡ Some f → message_size s ≡ None
-message_size-fault s f e = no_message (nat_lt (length s) 19) (header_fault s) _ f e
 
 -- a list without elements
 nil_of : (w : List ℕ) → length w ≤ 0 → w ≡ []

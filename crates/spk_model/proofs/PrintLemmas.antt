@@ -8,7 +8,6 @@ use Rattle.std.specs.Cmp.{IsTotalOrder}
 use Rattle.std.specs.declared.cmp.Ordering.{Ordering}
 use Rattle.std.specs.List.{slice_get, range_with_len}
 use Rattle.std.proofs.lemmas.List.{drop_all, length-map, map_push, map_more}
-use Rattle.std.proofs.lemmas.Cmp.{nat_cmp_total, then_total}
 use Rattle.std.proofs.lemmas.Option.{slice_get_within, get_or_from_slice_get, slice_get-map}
 use Rattle.xb_words.specs.Table.{entry_after, entries_after, IsRising}
 use Rattle.xb_words.proofs.TableLemmas.{entries_after-some, entries_after-none}
@@ -27,25 +26,6 @@ use Rattle.spk_model.specs.Reports.{adv_line_of, entry_lines, lines_of_map, numb
 use Rattle.spk_model.specs.Reports.{route_line_of}
 
 -- ---- a walk by keys
-
--- by address
-address_total : IsTotalOrder (λ (a b : Prefix). nat_cmp a.addr b.addr)
-address_total = record {
-  antisymm = λ x y. nat_cmp_total.antisymm x.addr y.addr;
-  trans = λ x y z. nat_cmp_total.trans x.addr y.addr z.addr;
-  congr = λ x y z. nat_cmp_total.congr x.addr y.addr z.addr;
-}
-
--- by length
-length_total : IsTotalOrder (λ (a b : Prefix). nat_cmp a.len b.len)
-length_total = record {
-  antisymm = λ x y. nat_cmp_total.antisymm x.len y.len;
-  trans = λ x y z. nat_cmp_total.trans x.len y.len z.len;
-  congr = λ x y z. nat_cmp_total.congr x.len y.len z.len;
-}
-
-pub prefix_total : IsTotalOrder prefix_cmp
-prefix_total = then_total address_total length_total
 
 module _ {K X : Type 0} (c : K → K → Ordering) (o : IsTotalOrder c) (f : K × X → List ℕ) where
   -- the lines after a key begin with the next entry's

@@ -1,5 +1,6 @@
 -- What a route becomes on its way to a peer: the attributes that are set, and by how much its section grows.
-use Rattle.std.proofs.Common.{◌≡◌, inl, inr, refl, sym, ap, ◌∙◌, ℕ, ◌+◌, ◌≤◌, Bool, true, false, List, [], length, map, Option, Some, None, arith, nat_le, nat_lt, unwrap_or}
+use Rattle.std.proofs.Common.{◌≡◌, inl, inr, refl, sym, ap, ◌∙◌, ℕ, ◌+◌, ◌≤◌, Bool, true, false, List, [], length, map}
+use Rattle.std.proofs.Common.{Option, Some, None, arith, nat_le, nat_lt, unwrap_or}
 use Rattle.std.specs.Prelude.{is_none, is_some, if◌then◌else◌, ◌==◌}
 use Rattle.std.specs.Option.{option_map}
 use Rattle.std.proofs.lemmas.Bool.{cases_Bool, le-leb}

@@ -1,5 +1,6 @@
 -- The one rank that survives, and its index.
-use Rattle.std.proofs.Common.{◌≡◌, refl, sym, ap, ◌∙◌, ℕ, ◌<◌, ◌≤◌, inl, List, unwrap_or, position, subst, [], ◌∷◌, Bool, length, get_or, ◌==◌, arith}
+use Rattle.std.proofs.Common.{◌≡◌, refl, sym, ap, ◌∙◌, ℕ, ◌<◌, ◌≤◌, inl, List, unwrap_or, position, subst, [], ◌∷◌}
+use Rattle.std.proofs.Common.{Bool, length, get_or, ◌==◌, arith}
 use Rattle.std.proofs.lemmas.Bool.{lt-ltb}
 use Rattle.std.specs.List.{list_any, position_or_len}
 use Rattle.spk_native.specs.declared.decision.Rank.{Rank}

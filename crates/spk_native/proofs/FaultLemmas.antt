@@ -1,5 +1,6 @@
 -- The judgement of an attribute with other flags, another value or another width.
-use Rattle.std.proofs.Common.{◌≡◌, inl, inr, refl, sym, ap, ◌∙◌, ℕ, ◌+◌, ◌/◌, ◌%◌, ◌^◌, Bool, true, false, List, [], ◌∷◌, length}
+use Rattle.std.proofs.Common.{◌≡◌, inl, inr, refl, sym, ap, ◌∙◌, ℕ, ◌+◌, ◌/◌, ◌%◌, ◌^◌, Bool, true, false, List, []}
+use Rattle.std.proofs.Common.{◌∷◌, length}
 use Rattle.std.proofs.Common.{None, arith}
 use Rattle.std.specs.Prelude.{bit_and, bit_or, not, slice_index, nat_lt, ◌==◌, ◌&&◌}
 use Rattle.std.proofs.lemmas.Bool.{and_parts, eq-eqb, ltb-true, ne_eqb}

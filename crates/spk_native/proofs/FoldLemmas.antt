@@ -1,6 +1,9 @@
 -- The decision of a set and the decision of two along an order: both give the one rank that is at least as good as all.
-use Rattle.std.proofs.Common.{◌≡◌, refl, sym, ap, ◌∙◌, subst, ℕ, zero, suc, ◌+◌, ◌<◌, ◌≤◌, ◌⊎◌, inl, inr, Bool, true, false, cond, List, [], ◌∷◌, length, get_or, fold, AllPairs, IsPermutation, sum_by, ◌==◌, nat_lt, arith}
-use Rattle.std.proofs.lemmas.Bool.{cases_Bool, and_parts, ltb-true, ltb-false, lt-ltb, eqb-true, eq-eqb, true≢false, false_from_ne_true}
+use Rattle.std.proofs.Common.{◌≡◌, refl, sym, ap, ◌∙◌, subst, ℕ, zero, suc, ◌+◌, ◌<◌, ◌≤◌, ◌⊎◌, inl, inr, Bool, true}
+use Rattle.std.proofs.Common.{false, cond, List, [], ◌∷◌, length, get_or, fold, AllPairs, IsPermutation, sum_by, ◌==◌}
+use Rattle.std.proofs.Common.{nat_lt, arith}
+use Rattle.std.proofs.lemmas.Bool.{cases_Bool, and_parts, ltb-true, ltb-false, lt-ltb, eqb-true, eq-eqb, true≢false}
+use Rattle.std.proofs.lemmas.Bool.{false_from_ne_true}
 use Rattle.std.proofs.lemmas.List.Sums.{sum_by-cons}
 use Rattle.std.proofs.lemmas.List.Sorted.{All-permutation, IsPermutation-sym, sum_by-IsPermutation}
 use Rattle.spk_native.specs.declared.decision.Rank.{Rank}
@@ -8,7 +11,8 @@ use Rattle.spk_native.specs.declared.decision.Key.{Key}
 use Rattle.spk_native.specs.declared.decision.Key.TheVariants.{Degree, Hops, Origin, Med, Kind, Cost, Id, Address}
 use Rattle.spk_native.specs.Decision.{is_better, unbeaten, keys, survivors}
 use Rattle.spk_native.specs.Laws.{AreApart, HaveOneMed, first_or, better_of, pairwise, fold_law}
-use Rattle.spk_native.proofs.OrderLemmas.{IsIn, IsIn-unbeaten, unbeaten-IsIn, IsIn-fold, is_better-irreflexive, one_survives}
+use Rattle.spk_native.proofs.OrderLemmas.{IsIn, IsIn-unbeaten, unbeaten-IsIn, IsIn-fold, is_better-irreflexive}
+use Rattle.spk_native.proofs.OrderLemmas.{one_survives}
 
 -- not both
 clash : {b : Bool} → b ≡ true → b ≡ false → ⊥

@@ -15,8 +15,10 @@ use Rattle.xb_words.specs.Table.{with_value}
 use Rattle.xb_words.specs.Octets.{AreOctets}
 use Rattle.xb_words.proofs.CutLemmas.{concat-cut}
 use Rattle.xb_words.proofs.ListLemmas.{AllByRecursion-left, AllByRecursion-right}
-use Rattle.bgp_attr.specs.Attributes.{attribute_size, attributes, header_size, attr_flags, attr_code, attr_value, codes_of}
-use Rattle.bgp_attr.specs.Routes.{Attribute, Route, attribute_at, with_attribute, without_attribute, kept_flags, route_of}
+use Rattle.bgp_attr.specs.Attributes.{attribute_size, attributes, header_size, attr_flags, attr_code, attr_value}
+use Rattle.bgp_attr.specs.Attributes.{codes_of}
+use Rattle.bgp_attr.specs.Routes.{Attribute, Route, attribute_at, with_attribute, without_attribute, kept_flags}
+use Rattle.bgp_attr.specs.Routes.{route_of}
 use Rattle.bgp_attr.specs.Routes.{IsEntry, IsRoute}
 use Rattle.bgp_check.specs.Judgement.{has_code}
 use Rattle.bgp_path.proofs.NumbersLemmas.{AreOctets-drop}

@@ -1,5 +1,6 @@
 -- Ranks that are marked as left.
-use Rattle.std.proofs.Common.{◌≡◌, refl, sym, ap, ◌∙◌, ℕ, zero, suc, ◌+◌, ◌<◌, ◌≤◌, Bool, true, false, List, [], ◌∷◌, length, get_or, drop, replicate, filter, ◌&&◌, ◌||◌, ◌==◌, if◌then◌else◌, one-add, arith}
+use Rattle.std.proofs.Common.{◌≡◌, refl, sym, ap, ◌∙◌, ℕ, zero, suc, ◌+◌, ◌<◌, ◌≤◌, Bool, true, false, List, [], ◌∷◌}
+use Rattle.std.proofs.Common.{length, get_or, drop, replicate, filter, ◌&&◌, ◌||◌, ◌==◌, if◌then◌else◌, one-add, arith}
 use Rattle.std.specs.List.{list_any, position_or_len}
 use Rattle.spk_native.specs.declared.decision.Rank.{Rank}
 use Rattle.spk_native.specs.Decision.{left_of}

@@ -1,11 +1,13 @@
 -- Paths in two octets a number, and numbers that two octets cannot hold.
-use Rattle.std.proofs.Common.{◌≡◌, refl, sym, ap, subst, ◌∙◌, ℕ, ◌-◌, ◌*◌, ◌<◌, ◌≤◌, Bool, true, false, List, [], ◌∷◌, length, map, take, drop, Option, Some, None, arith, unwrap_or}
+use Rattle.std.proofs.Common.{◌≡◌, refl, sym, ap, subst, ◌∙◌, ℕ, ◌-◌, ◌*◌, ◌<◌, ◌≤◌, Bool, true, false, List, [], ◌∷◌}
+use Rattle.std.proofs.Common.{length, map, take, drop, Option, Some, None, arith, unwrap_or}
 use Rattle.std.specs.Prelude.{flat_map, not, ◌||◌}
 use Rattle.std.specs.List.{list_any, AllByRecursion}
 use Rattle.std.proofs.lemmas.List.{length-append, take_at}
 use Rattle.xb_words.specs.Octets.{four_at}
 use Rattle.xb_words.specs.Cut.{cut}
-use Rattle.bgp_attr.specs.Paths.{Segment, segment_size, segment_of, segment_octets, number_octets, numbers_of, path, path_ok, path_octets}
+use Rattle.bgp_attr.specs.Paths.{Segment, segment_size, segment_of, segment_octets, number_octets, numbers_of, path}
+use Rattle.bgp_attr.specs.Paths.{path_ok, path_octets}
 use Rattle.bgp_path.specs.Fronts.{WritesFront}
 use Rattle.bgp_path.specs.Parts.{Part, part_of, part_segment, path_parts}
 use Rattle.bgp_path.specs.Splits.{BeginsWith}

@@ -1,5 +1,6 @@
 -- What a route with attributes removed and set has for each code, and how long its canonical section is.
-use Rattle.std.proofs.Common.{◌≡◌, inl, inr, refl, sym, ap, ◌∙◌, ℕ, ◌+◌, ◌≤◌, Bool, true, false, cond, List, [], ◌∷◌, ◌++◌, length, take, drop, Option, Some, None, arith, nat_le, nat_lt}
+use Rattle.std.proofs.Common.{◌≡◌, inl, inr, refl, sym, ap, ◌∙◌, ℕ, ◌+◌, ◌≤◌, Bool, true, false, cond, List, [], ◌∷◌}
+use Rattle.std.proofs.Common.{◌++◌, length, take, drop, Option, Some, None, arith, nat_le, nat_lt}
 use Rattle.std.specs.Prelude.{sum_by, if◌then◌else◌}
 use Rattle.std.specs.Map.{keys_of, values_of}
 use Rattle.std.specs.BTreeMap.{is_at}
@@ -16,7 +17,8 @@ use Rattle.std.proofs.lemmas.Map.Entries.{sum_by-remove_entry, sum_by-insert_ent
 use Rattle.std.proofs.lemmas.Map.Keys.{IsDistinct-from_sorted}
 use Rattle.xb_words.specs.Table.{with_value}
 use Rattle.bgp_attr.specs.declared.TheConstants.{MAX_CANONICAL}
-use Rattle.bgp_attr.specs.Routes.{Attribute, Route, attribute_at, with_attribute, without_attribute, canon, canonical, kept_flags, IsRoute}
+use Rattle.bgp_attr.specs.Routes.{Attribute, Route, attribute_at, with_attribute, without_attribute, canon, canonical}
+use Rattle.bgp_attr.specs.Routes.{kept_flags, IsRoute}
 use Rattle.xbgp_view.specs.Views.{copied, flags_and_length}
 use Rattle.xbgp_view.proofs.ViewsLemmas.{flags_and_length-some, value_in, IsEntry-attribute_at}
 use Rattle.xbgp_view.proofs.LengthsLemmas.{length-canonical}

@@ -1,5 +1,6 @@
 -- Routes in the form of a session, as routes with other attributes for the four codes.
-use Rattle.std.proofs.Common.{◌≡◌, inl, inr, refl, sym, ap, subst, ◌∙◌, ℕ, ◌+◌, arith, Bool, true, false, List, [], ◌∷◌, length, Option, Some, None, Bor}
+use Rattle.std.proofs.Common.{◌≡◌, inl, inr, refl, sym, ap, subst, ◌∙◌, ℕ, ◌+◌, arith, Bool, true, false, List, [], ◌∷◌}
+use Rattle.std.proofs.Common.{length, Option, Some, None, Bor}
 use Rattle.std.specs.Option.{option_map}
 use Rattle.std.specs.Prelude.{Result, Ok, Err, IfErr, IfSome, if◌then◌else◌, ◌==◌, ◌<◌, not}
 use Rattle.std.specs.Map.{keys_of}
@@ -13,13 +14,18 @@ use Rattle.bgp_attr.specs.Rules.{attr_fault, row_fault, fault_if}
 use Rattle.bgp_attr.specs.declared.rule.AttrFault.TheVariants.{Path}
 use Rattle.bgp_attr.specs.Paths.{path_ok}
 use Rattle.bgp_path.specs.Widths.{narrow_path}
-use Rattle.xbgp_view.proofs.LowerLemmas.{eq-nat_cmp, lt-nat_cmp, gt-nat_cmp, nat_cmp-equal, nat_cmp-less, below_none, past_all}
+use Rattle.xbgp_view.proofs.LowerLemmas.{eq-nat_cmp, lt-nat_cmp, gt-nat_cmp, nat_cmp-equal, nat_cmp-less, below_none}
+use Rattle.xbgp_view.proofs.LowerLemmas.{past_all}
 use Rattle.xbgp_view.proofs.ViewsLemmas.{IsEntry-attribute_at}
 use Rattle.spk_native.specs.declared.four.Four.{Four}
-use Rattle.spk_native.specs.Receipt.{narrow, narrow_aggregator, changed, with_value_by, kept_beside, is_wide_path, is_wide_aggregator, inflow, widened, widened_by, without_narrow, aggregated_since, good, is_good_aggregator, good_aggregator, path_with, aggregator_with}
+use Rattle.spk_native.specs.Receipt.{narrow, narrow_aggregator, changed, with_value_by, kept_beside, is_wide_path}
+use Rattle.spk_native.specs.Receipt.{is_wide_aggregator, inflow, widened, widened_by, without_narrow, aggregated_since}
+use Rattle.spk_native.specs.Receipt.{good, is_good_aggregator, good_aggregator, path_with, aggregator_with}
 use Rattle.spk_native.specs.Values.{IsFaultless}
-use Rattle.spk_native.specs.Rebuilds.{size_if, set_if, bare, four_of, rebuilt, valued, or_other, beside, narrow_four, wide_four, used_path, used_aggregator}
-use Rattle.spk_native.proofs.RebuildsLemmas.{kept, less, over, at-set_if, at-bare, rising-set_if, rising-bare, is_eq-true, at-without, rising-without, length-without}
+use Rattle.spk_native.specs.Rebuilds.{size_if, set_if, bare, four_of, rebuilt, valued, or_other, beside, narrow_four}
+use Rattle.spk_native.specs.Rebuilds.{wide_four, used_path, used_aggregator}
+use Rattle.spk_native.proofs.RebuildsLemmas.{kept, less, over, at-set_if, at-bare, rising-set_if, rising-bare}
+use Rattle.spk_native.proofs.RebuildsLemmas.{is_eq-true, at-without, rising-without, length-without}
 
 -- two routes that have the same for each code
 pub same_route : (r s : Route) → IsStrictlySortedBy nat_cmp (keys_of r) → IsStrictlySortedBy nat_cmp (keys_of s)

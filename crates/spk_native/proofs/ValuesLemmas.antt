@@ -1,5 +1,6 @@
 -- What is read of a route: the value that a view copies, and the AS_PATH of a route without faults.
-use Rattle.std.proofs.Common.{◌≡◌, refl, sym, ap, ◌∙◌, ℕ, ◌≤◌, Bool, true, false, List, [], length, Option, Some, None, IfNone, not, ◌&&◌, ◌==◌, unwrap_or, arith}
+use Rattle.std.proofs.Common.{◌≡◌, refl, sym, ap, ◌∙◌, ℕ, ◌≤◌, Bool, true, false, List, [], length, Option, Some, None}
+use Rattle.std.proofs.Common.{IfNone, not, ◌&&◌, ◌==◌, unwrap_or, arith}
 use Rattle.std.specs.Option.{option_map}
 use Rattle.std.proofs.lemmas.Bool.{le-ltb}
 use Rattle.xb_words.specs.Cut.{cut}

@@ -1,6 +1,7 @@
 // What is accepted from a peer and for a peer when no program answers.
 ghost use Rattle.std.specs.Prelude.{◌≡◌, length};
-ghost use Rattle.spk_native.specs.Filters.{accepts_inbound, accepts_outbound, has_as, is_next_hop, is_internal as internal};
+ghost use Rattle.spk_native.specs.Filters.{accepts_inbound, accepts_outbound, has_as, is_next_hop};
+ghost use Rattle.spk_native.specs.Filters.{is_internal as internal};
 
 use crate::values::{number_at, read_value};
 use bgp_attr::MAX_CANONICAL;

@@ -1,6 +1,7 @@
 // Attributes with AS numbers of two octets in four, with what AS4_PATH and AS4_AGGREGATOR say of them (RFC 6793,
 // section 4.2.3).
-ghost use Rattle.std.specs.Prelude.{◌≡◌, ◌<◌, ◌≤◌, length, true, false, None, Some, if◌then◌else◌, IfErr, IfOk, IfSome, MatchOption};
+ghost use Rattle.std.specs.Prelude.{◌≡◌, ◌<◌, ◌≤◌, length, true, false, None, Some, if◌then◌else◌, IfErr, IfOk, IfSome};
+ghost use Rattle.std.specs.Prelude.{MatchOption};
 ghost use Rattle.std.specs.Option.{option_map};
 ghost use Rattle.bgp_attr.specs.Paths.{path_ok as is_path};
 ghost use Rattle.bgp_attr.specs.Routes.{Attribute, canon, IsRoute};

@@ -1,5 +1,6 @@
 -- What the candidates of a prefix are: they are few, their addresses differ, and their routes are sound.
-use Rattle.std.proofs.Common.{◌≡◌, ◌≢◌, ◌≤◌, ◌<◌, ◌∙◌, ◌-◌, ◌+◌, refl, sym, ap, subst, ℕ, zero, suc, Bool, true, false, List, [], ◌∷◌, ◌++◌, length, arith, Option, Some, None, get_or}
+use Rattle.std.proofs.Common.{◌≡◌, ◌≢◌, ◌≤◌, ◌<◌, ◌∙◌, ◌-◌, ◌+◌, refl, sym, ap, subst, ℕ, zero, suc, Bool, true, false}
+use Rattle.std.proofs.Common.{List, [], ◌∷◌, ◌++◌, length, arith, Option, Some, None, get_or}
 use Rattle.std.specs.Prelude.{IfSome, if◌then◌else◌, slice_index_or, filter_map}
 use Rattle.std.specs.Option.{option_map}
 use Rattle.std.specs.List.{All, AllPairs, range_with_len, cons_option}

@@ -1,5 +1,6 @@
 -- The route of a local network is sound.
-use Rattle.std.proofs.Common.{◌≡◌, ◌≤◌, ◌<◌, ◌∙◌, ◌/◌, ◌%◌, ◌^◌, refl, sym, ap, subst, ℕ, Bool, true, false, List, [], ◌∷◌, length, arith, lit≤, Option, Some, None}
+use Rattle.std.proofs.Common.{◌≡◌, ◌≤◌, ◌<◌, ◌∙◌, ◌/◌, ◌%◌, ◌^◌, refl, sym, ap, subst, ℕ, Bool, true, false, List, []}
+use Rattle.std.proofs.Common.{◌∷◌, length, arith, lit≤, Option, Some, None}
 use Rattle.std.specs.Prelude.{IsTrue, is_none, ◌==◌, ◌&&◌, not, nat_lt}
 use borrow.Author.Tests.{ltb-true}
 use Rattle.std.specs.List.{AllByRecursion}

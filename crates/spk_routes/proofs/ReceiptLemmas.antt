@@ -1,5 +1,6 @@
 -- Received routes without faults.
-use Rattle.std.proofs.Common.{◌≡◌, inl, inr, refl, sym, ◌∙◌, ap, subst, ℕ, Bool, true, false, List, [], ◌∷◌, fold, Option, Some, None}
+use Rattle.std.proofs.Common.{◌≡◌, inl, inr, refl, sym, ◌∙◌, ap, subst, ℕ, Bool, true, false, List, [], ◌∷◌, fold}
+use Rattle.std.proofs.Common.{Option, Some, None}
 use Rattle.std.specs.Prelude.{if◌then◌else◌}
 use Rattle.std.specs.Map.{keys_of}
 use Rattle.std.specs.List.Sorted.{IsStrictlySortedBy}
@@ -11,7 +12,8 @@ use Rattle.xb_words.proofs.TableLemmas.{IsRising-with_value}
 use Rattle.xb_domain.specs.declared.side.Side.{Side}
 use Rattle.bgp_attr.specs.declared.codes.TheConstants.{LOCAL_PREF}
 use Rattle.bgp_attr.specs.Attributes.{attributes, attr_code, attr_flags, attr_value}
-use Rattle.bgp_attr.specs.Routes.{Attribute, Route, attribute_at, with_attribute, without_attribute, kept_flags, route_of}
+use Rattle.bgp_attr.specs.Routes.{Attribute, Route, attribute_at, with_attribute, without_attribute, kept_flags}
+use Rattle.bgp_attr.specs.Routes.{route_of}
 use Rattle.spk_native.specs.Filters.{as_received, is_external}
 use Rattle.spk_native.specs.Values.{IsFaultless}
 use Rattle.spk_native.proofs.RebuildsLemmas.{less, at-without}

@@ -9,9 +9,10 @@ use Rattle.std.specs.Ordering.{match_ordering, nat_cmp, ordering_then, is_eq}
 use Rattle.std.specs.declared.cmp.Ordering.{Ordering}
 use Rattle.std.specs.declared.cmp.Ordering.TheVariants.{Less, Equal, Greater}
 use Rattle.std.proofs.lemmas.Bool.Decides.{eqb_tells}
-use Rattle.std.proofs.lemmas.Cmp.{nat_cmp_total, on_total, then_total, eq_by_cmp_equiv}
+use Rattle.std.proofs.lemmas.Cmp.{eq_by_cmp_equiv}
 use Rattle.xb_words.specs.Table.{has_key, with_key, with_keys, set_of}
 use Rattle.xb_values.specs.Prefixes.{Prefix, prefix_cmp}
+use Rattle.xb_values.proofs.PrefixLemmas.{prefix_total}
 use Rattle.xbgp_config.specs.Configs.{same_prefix}
 use Rattle.xbgp_view.proofs.LowerLemmas.{eq-nat_cmp, nat_cmp-equal}
 
@@ -67,11 +68,6 @@ module _ {K : Type 0} (c : K → K → Ordering) (o : IsTotalOrder c) where
       ∙ ap (λ b. list_any (is_at (c q)) ks || b) (has_key-with_key set k q)
       ∙ or_swap (list_any (is_at (c q)) ks) (is_at (c q) k) (has_key c set q)
       ∙ sym (or_assoc (is_at (c q) k) (list_any (is_at (c q)) ks) (has_key c set q))
-
--- the order of prefixes is total
-pub prefix_total : IsTotalOrder prefix_cmp
-prefix_total =
-    then_total (on_total (λ (p : Prefix). p.addr) nat_cmp_total) (on_total (λ (p : Prefix). p.len) nat_cmp_total)
 
 not_equal : (r : Ordering) → (r ≡ Equal → ⊥) → is_eq r ≡ false
 not_equal Less other = refl

@@ -1,6 +1,7 @@
 -- The candidates of a prefix, by what the peers sent of it (RFC 4271, section 9.1; the order of candidates is this
 -- project's own).
-use Rattle.std.specs.Prelude.{◌≡◌, ◌≢◌, ◌≤◌, ◌+◌, length, ℕ, Bool, List, [], ◌∷◌, ◌++◌, map, filter_map, Option, if◌then◌else◌}
+use Rattle.std.specs.Prelude.{◌≡◌, ◌≢◌, ◌≤◌, ◌+◌, length, ℕ, Bool, List, [], ◌∷◌, ◌++◌, map, filter_map, Option}
+use Rattle.std.specs.Prelude.{if◌then◌else◌}
 use Rattle.std.specs.Option.{option_map}
 use Rattle.std.specs.List.{range_with_len, All, AllPairs}
 use Rattle.bgp_attr.specs.Routes.{Route}

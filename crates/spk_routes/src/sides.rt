@@ -3,7 +3,8 @@ ghost use Rattle.std.specs.Prelude.{◌≡◌, ◌≤◌, ◌==◌, length, find
 ghost use Rattle.std.specs.Option.{option_map};
 ghost use Rattle.std.specs.List.{list_any};
 ghost use Rattle.xbgp_config.specs.Configs.{IsConfig, same_prefix};
-ghost use Rattle.spk_model.specs.Sources.{is_established, is_network as is_local, cost_of as cost_of_hop, side_of as side_in};
+ghost use Rattle.spk_model.specs.Sources.{is_established, is_network as is_local, cost_of as cost_of_hop};
+ghost use Rattle.spk_model.specs.Sources.{side_of as side_in};
 
 use bgp_fsm::{Session, State};
 use spk_native::{EXTERNAL, INTERNAL};

@@ -7,6 +7,7 @@ use Rattle.std.proofs.lemmas.List.{set-set, set-get_or, get_or-replicate, length
 use Rattle.std.proofs.lemmas.List.{take-append-le, drop-append-le}
 use Rattle.xb_wire.specs.Messages.{Notification, message_size, front_fault, message_kind, message_body}
 use Rattle.xb_wire.proofs.MessageLemmas.{message_size_is_size, message_size_is_stable}
+use Rattle.xb_wire.proofs.FaultLemmas.{message_size-fault, front_fault-append}
 use Rattle.bgp_fsm.specs.Sessions.{is_live}
 use Rattle.spk_model.specs.declared.host.Setup.{Setup}
 use Rattle.spk_model.specs.Turning.{message_in, refuse}
@@ -14,7 +15,6 @@ use Rattle.spk_session.specs.Meaning.{Core, Does, HasPeer, IsReady, IsCalm, stat
 use Rattle.spk_session.specs.Acting.{IsLeft, LeftBy}
 use Rattle.spk_session.specs.Taking.{IsClosed, IsTaken}
 use Rattle.spk_session.proofs.Dropping.{kept-calm, kept-set}
-use Rattle.spk_session.proofs.FaultLemmas.{fault_none, fault_stable}
 use Rattle.spk_session.proofs.TakeLemmas.{flagged, message_comes, fault_comes}
 
 -- a flag that is cleared when none is set
@@ -134,8 +134,8 @@ closed_by_fault a b ds p f w w' ready calm peer live is d up down gone =
       calm = calm_again a b ds d.setup ready d.ready after;
       gone = gone;
       comes = λ tail.
-          let behind : front_fault (w ++ tail) ≡ Some f = fault_stable w tail f is in
-          fault_comes a b ds p f (w ++ tail) calm live (fault_none (w ++ tail) f behind) behind d
+          let behind : front_fault (w ++ tail) ≡ Some f = front_fault-append w tail f is in
+          fault_comes a b ds p f (w ++ tail) calm live (message_size-fault (w ++ tail) f behind) behind d
           (λ waits. gone_same (length ((a.links).sessions).items) (p - 1) ((a.links).dropped).items
           ((b.links).dropped).items ds.items waits (w ++ tail) i (ready.even).flags calm up after);
     }

@@ -5,7 +5,6 @@ pub mod Dropping
 pub mod RowLemmas
 pub mod MessageLemmas
 pub mod TakeLemmas
-pub mod FaultLemmas
 pub mod FrontLemmas
 pub mod LoopLemmas
 pub mod HostLemmas

@@ -7,7 +7,8 @@ use Rattle.std.specs.Vec.{with_item}
 use Rattle.std.specs.Result.{OnOk, IfOk}
 use Rattle.std.specs.declared.result.Result.{Result}
 use Rattle.std.specs.declared.result.Result.TheVariants.{Ok, Err}
-use Rattle.std.proofs.lemmas.List.{set-get_or, drop_all, take_all, append-nil, length-set, get_or-set_same, get_or_default}
+use Rattle.std.proofs.lemmas.List.{set-get_or, drop_all, take_all, append-nil, length-set, get_or-set_same}
+use Rattle.std.proofs.lemmas.List.{get_or_default}
 use Rattle.std.proofs.lemmas.Bool.{lt-ltb, eqb-true}
 use Rattle.xb_values.specs.Buffers.{Buffer}
 use Rattle.xb_domain.specs.declared.output.Packing.{Packing}
@@ -17,7 +18,8 @@ use Rattle.spk_model.specs.declared.host.Setup.{Setup}
 use Rattle.spk_model.specs.Choosing.{Trace}
 use Rattle.spk_model.specs.Sources.{is_up}
 use Rattle.spk_model.specs.Routing.{Routing, tables_of, with_tables}
-use Rattle.spk_model.specs.Turning.{Turn, Speaker, emit, emit_turns, form_next, formed_rest, is_spent, less, put, put_rest}
+use Rattle.spk_model.specs.Turning.{Turn, Speaker, emit, emit_turns, form_next, formed_rest, is_spent, less, put}
+use Rattle.spk_model.specs.Turning.{put_rest}
 use Rattle.spk_model.specs.Turning.{rest_of, rest_or_form, tables_at, unless_spent, within}
 use Rattle.spk_session.specs.declared.links.Links.{Links}
 use Rattle.spk_session.specs.Acting.{rest_in}

@@ -1,12 +1,15 @@
 -- What the value of a step says of it.
-use Rattle.std.proofs.Common.{◌≡◌, ℕ, zero, suc, ◌<◌, ◌≤◌, ℤ, pos, negsuc, Bool, true, false, not, if◌then◌else◌, List, [], ◌∷◌, length, get_or, Option, Some, None, Ok, nat_le, ◌⊎◌, inl, inr, refl, ap, sym, arith}
+use Rattle.std.proofs.Common.{◌≡◌, ℕ, zero, suc, ◌<◌, ◌≤◌, ℤ, pos, negsuc, Bool, true, false, not, if◌then◌else◌, List}
+use Rattle.std.proofs.Common.{[], ◌∷◌, length, get_or, Option, Some, None, Ok, nat_le, ◌⊎◌, inl, inr, refl, ap, sym}
+use Rattle.std.proofs.Common.{arith}
 use Rattle.std.specs.List.{list_any}
 use Rattle.std.proofs.lemmas.Bool.{cases_Bool, leb-true, or_parts}
 use Rattle.toml.specs.Data.{Data, Members, get_member, as_integer, as_array}
 use Rattle.xb_domain.specs.declared.bad.BadKind.{BadKind}
 use Rattle.xb_domain.specs.declared.bad.BadKind.TheVariants.{Shape, Missing, Range, Count}
 use Rattle.xb_fields.specs.declared.fault.Location.{Location}
-use Rattle.xb_fields.specs.Fields.{Judged, ◌>>=◌, present, must, is_between, number_between, number, string_in, text, data_of, list_of, required, optional}
+use Rattle.xb_fields.specs.Fields.{Judged, ◌>>=◌, present, must, is_between, number_between, number, string_in, text}
+use Rattle.xb_fields.specs.Fields.{data_of, list_of, required, optional}
 use Rattle.xb_fields.proofs.StepLemmas.{bind-ok}
 
 -- a value that is there

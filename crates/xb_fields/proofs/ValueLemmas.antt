@@ -1,5 +1,6 @@
 -- Values and tables of TOML beside the data that definitions see.
-use Rattle.std.proofs.Common.{◌≡◌, ℕ, List, [], ◌∷◌, length, map, ◌<◌, ◌≤◌, Ok, Err, Some, String, Global, Bor, BTreeMap, string_bytes, refl, ap, le-leb}
+use Rattle.std.proofs.Common.{◌≡◌, ℕ, List, [], ◌∷◌, length, map, ◌<◌, ◌≤◌, Ok, Err, Some, String, Global, Bor}
+use Rattle.std.proofs.Common.{BTreeMap, string_bytes, refl, ap, le-leb}
 use Rattle.std.proofs.lemmas.Bool.{lt-leb}
 use Rattle.std.specs.List.{list_any, list_all}
 use Rattle.std.specs.BTreeMap.{keys}

@@ -1,10 +1,12 @@
 -- Fields of a TOML document, with the first fault: each step gives a value, or a fault with its kind and its location
 -- (this project's own).
-use Rattle.std.specs.Prelude.{ℕ, ◌+◌, Bool, List, [], ◌∷◌, ◌++◌, length, Option, Some, None, Result, Ok, Err, ok_or, ℤ, pos, negsuc, nat_le, ◌&&◌, if◌then◌else◌}
+use Rattle.std.specs.Prelude.{ℕ, ◌+◌, Bool, List, [], ◌∷◌, ◌++◌, length, Option, Some, None, Result, Ok, Err, ok_or, ℤ}
+use Rattle.std.specs.Prelude.{pos, negsuc, nat_le, ◌&&◌, if◌then◌else◌}
 use Rattle.std.specs.List.{list_any, list_all}
 use Rattle.std.specs.Str.{bytes_eq, is_utf8}
 use Rattle.toml.specs.Parse.{parse_document}
-use Rattle.toml.specs.Data.{Data, Items, no_items, item, Members, no_members, member, get_member, as_str, as_integer, as_array, as_table}
+use Rattle.toml.specs.Data.{Data, Items, no_items, item, Members, no_members, member, get_member, as_str, as_integer}
+use Rattle.toml.specs.Data.{as_array, as_table}
 use Rattle.xb_domain.specs.declared.bad.BadKind.{BadKind}
 use Rattle.xb_domain.specs.declared.bad.BadKind.TheVariants.{Text, Shape, Key, Missing, Range, Count}
 use Rattle.xb_domain.specs.declared.bad.Part.{Part}

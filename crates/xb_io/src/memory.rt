@@ -1,7 +1,9 @@
 //! A shelf and a sink in memory, whose calls fail as their caller has said: what tests and proofs run over.
-ghost use Rattle.std.specs.Prelude.{◌≡◌, ◌+◌, ◌-◌, ◌<◌, ◌≤◌, ◌⊎◌, ◌↔◌, [], ◌∷◌, ◌++◌, length, take, Some, IsNone, IsTrue, IfOk, IsErr, OnOk, OnErr, Contains};
+ghost use Rattle.std.specs.Prelude.{◌≡◌, ◌+◌, ◌-◌, ◌<◌, ◌≤◌, ◌⊎◌, ◌↔◌, [], ◌∷◌, ◌++◌, length, take, Some, IsNone};
+ghost use Rattle.std.specs.Prelude.{IsTrue, IfOk, IsErr, OnOk, OnErr, Contains};
 ghost use Rattle.std.specs.Option.{option_copied};
-ghost use Rattle.xb_io.specs.Causes.{FaultsRose, one_more, IsMissing, Reads, ReadsPart, file_named, TookFront, with_text};
+ghost use Rattle.xb_io.specs.Causes.{FaultsRose, one_more, IsMissing, Reads, ReadsPart, file_named, TookFront};
+ghost use Rattle.xb_io.specs.Causes.{with_text};
 ghost use Rattle.xb_io.specs.Entries.{files_of};
 ghost use Rattle.xb_io.specs.Memories.{HoldsAlso};
 

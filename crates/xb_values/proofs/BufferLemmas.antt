@@ -1,5 +1,6 @@
 -- A text that fits is appended.
-use Rattle.std.proofs.Common.{◌≡◌, refl, ap, ◌∙◌, ℕ, zero, suc, ◌+◌, ◌<◌, ◌≤◌, List, [], ◌∷◌, ◌++◌, slice_set, length, take, drop, Bool, true, false, arith, length-append}
+use Rattle.std.proofs.Common.{◌≡◌, refl, ap, ◌∙◌, ℕ, zero, suc, ◌+◌, ◌<◌, ◌≤◌, List, [], ◌∷◌, ◌++◌, slice_set, length}
+use Rattle.std.proofs.Common.{take, drop, Bool, true, false, arith, length-append}
 use Rattle.std.proofs.lemmas.List.{take_at, length-take, length-drop, length-set}
 use Rattle.xb_values.specs.Buffers.{Buffer, Appends}
 

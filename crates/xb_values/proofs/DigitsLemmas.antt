@@ -1,5 +1,6 @@
 -- The digits of octets that are appended eight at a time.
-use Rattle.std.proofs.Common.{◌≡◌, refl, sym, ap, ◌∙◌, ℕ, ◌+◌, ◌-◌, ◌*◌, ◌≤◌, List, [], ◌∷◌, ◌++◌, length, take, drop, get_or, flat_map, arith, length-append}
+use Rattle.std.proofs.Common.{◌≡◌, refl, sym, ap, ◌∙◌, ℕ, ◌+◌, ◌-◌, ◌*◌, ◌≤◌, List, [], ◌∷◌, ◌++◌, length, take, drop}
+use Rattle.std.proofs.Common.{get_or, flat_map, arith, length-append}
 use Rattle.std.proofs.lemmas.List.{append_assoc, take_rest, length-drop}
 use Rattle.xb_values.specs.Buffers.{Buffer}
 use Rattle.xb_values.specs.Texts.{hex_octet}

@@ -1,15 +1,19 @@
 -- Texts that are read: their parts, and what their digits say.
-use Rattle.std.proofs.Common.{◌≡◌, refl, sym, ap, ◌∙◌, inl, inr, ℕ, ◌+◌, ◌-◌, ◌*◌, ◌^◌, ◌<◌, ◌≤◌, Bool, true, false, ◌&&◌, ◌==◌, if◌then◌else◌, List, [], ◌∷◌, length, take, drop, map, Option, Some, None, position, nat_le, arith, suc, get_or, drop-cons, ◌⊎◌, ◌↔◌, IsSome, IfSome}
+use Rattle.std.proofs.Common.{◌≡◌, refl, sym, ap, ◌∙◌, inl, inr, ℕ, ◌+◌, ◌-◌, ◌*◌, ◌^◌, ◌<◌, ◌≤◌, Bool, true, false}
+use Rattle.std.proofs.Common.{◌&&◌, ◌==◌, if◌then◌else◌, List, [], ◌∷◌, length, take, drop, map, Option, Some, None}
+use Rattle.std.proofs.Common.{position, nat_le, arith, suc, get_or, drop-cons, ◌⊎◌, ◌↔◌, IsSome, IfSome}
 use Rattle.std.specs.List.{list_all, position_or_len}
 use Rattle.std.specs.Int.Digits.{number_from_digits_after}
 use Rattle.std.proofs.lemmas.Int.Digits.{number_after_ge}
-use Rattle.std.proofs.lemmas.Bool.{cases_Bool, cases_lt, and_parts, and_left, and_right, cond-false, leb-true, leb-false, le-leb, lt-leb, lt-ltb, le-ltb, eqb-true, ne_eqb}
+use Rattle.std.proofs.lemmas.Bool.{cases_Bool, cases_lt, and_parts, and_left, and_right, cond-false, leb-true}
+use Rattle.std.proofs.lemmas.Bool.{leb-false, le-leb, lt-leb, lt-ltb, le-ltb, eqb-true, ne_eqb}
 use Rattle.std.proofs.lemmas.List.{take_rest, drop_all}
 use Rattle.std.specs.Option.{option_map}
 use Rattle.xb_words.specs.Optional.{◌>>=◌}
 use Rattle.xb_words.specs.Octets.{four_at}
 use Rattle.xb_values.specs.Prefixes.{Prefix, prefix_of}
-use Rattle.xb_values.specs.Readers.{split_on, with_first_octet, is_digit, is_decimal, digits_value, number_up_to, read_dotted, read_prefix}
+use Rattle.xb_values.specs.Readers.{split_on, with_first_octet, is_digit, is_decimal, digits_value, number_up_to}
+use Rattle.xb_values.specs.Readers.{read_dotted, read_prefix}
 
 -- the parts of a text, by the length of its first part
 split_on-none : (c : ℕ) (text : List ℕ) → length text ≤ position_or_len (λ x. x == c) text → split_on c text ≡ text ∷ []

@@ -1,5 +1,6 @@
 -- Prefixes (RFC 4271, section 4.3: a length in bits, and the fewest octets that hold it).
-use Rattle.std.specs.Prelude.{◌≡◌, ℕ, ◌+◌, ◌-◌, ◌*◌, ◌/◌, ◌^◌, ◌<◌, ◌≤◌, Bool, List, [], ◌∷◌, length, take, map, slice_index, Option, Some, None, nat_le, ◌==◌, ◌&&◌, if◌then◌else◌}
+use Rattle.std.specs.Prelude.{◌≡◌, ℕ, ◌+◌, ◌-◌, ◌*◌, ◌/◌, ◌^◌, ◌<◌, ◌≤◌, Bool, List, [], ◌∷◌, length, take, map}
+use Rattle.std.specs.Prelude.{slice_index, Option, Some, None, nat_le, ◌==◌, ◌&&◌, if◌then◌else◌}
 use Rattle.std.specs.declared.cmp.Ordering.{Ordering}
 use Rattle.std.specs.Ordering.{nat_cmp, ordering_then}
 use Rattle.xb_words.specs.Octets.{four_at, four_octets}

@@ -1,5 +1,6 @@
 -- Texts of numbers, addresses, prefixes and octets (this project's own; addresses as is usual for IPv4).
-use Rattle.std.specs.Prelude.{ℕ, ◌+◌, ◌/◌, ◌%◌, List, [], ◌∷◌, ◌++◌, map, nat_lt, if◌then◌else◌, decimal, codes, flat_map}
+use Rattle.std.specs.Prelude.{ℕ, ◌+◌, ◌/◌, ◌%◌, List, [], ◌∷◌, ◌++◌, map, nat_lt, if◌then◌else◌, decimal, codes}
+use Rattle.std.specs.Prelude.{flat_map}
 use Rattle.std.specs.List.{join_with_byte}
 use Rattle.xb_words.specs.Octets.{four_octets}
 use Rattle.xb_values.specs.Prefixes.{Prefix}

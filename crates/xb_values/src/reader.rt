@@ -1,7 +1,9 @@
 //! Texts that are read: numbers in decimal, addresses and prefixes.
-ghost use Rattle.std.specs.Prelude.{◌≡◌, ◌-◌, ◌*◌, ◌+◌, ◌^◌, ◌∷◌, [], Some, None, position, nat_le, ◌==◌, ◌&&◌, if◌then◌else◌, IfNone, IfSome, length};
+ghost use Rattle.std.specs.Prelude.{◌≡◌, ◌-◌, ◌*◌, ◌+◌, ◌^◌, ◌∷◌, [], Some, None, position, nat_le, ◌==◌, ◌&&◌};
+ghost use Rattle.std.specs.Prelude.{if◌then◌else◌, IfNone, IfSome, length};
 ghost use Rattle.std.specs.List.{list_all};
-ghost use Rattle.xb_values.specs.Readers.{split_on, is_digit, digits_value, number_up_to, read_decimal, read_dotted, read_prefix};
+ghost use Rattle.xb_values.specs.Readers.{split_on, is_digit, digits_value, number_up_to, read_decimal, read_dotted};
+ghost use Rattle.xb_values.specs.Readers.{read_prefix};
 
 use crate::Prefix;
 

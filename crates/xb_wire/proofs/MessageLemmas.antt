@@ -1,13 +1,18 @@
 -- Laws of the stream of messages.
-use Rattle.std.proofs.Common.{◌≡◌, refl, sym, ap, ◌∙◌, inl, inr, ℕ, ◌≤◌, Bool, true, false, cond, List, [], ◌∷◌, ◌++◌, length, take, drop, Option, Some, None, arith, unwrap_or, nat_lt}
-use Rattle.std.proofs.lemmas.List.{length-append, take-append-le, drop-append-le, length-drop, length-take-le, take-append-drop, get_or_append_left}
+use Rattle.std.proofs.Common.{◌≡◌, refl, sym, ap, ◌∙◌, inl, inr, ℕ, ◌≤◌, Bool, true, false, cond, List, [], ◌∷◌, ◌++◌}
+use Rattle.std.proofs.Common.{length, take, drop, Option, Some, None, arith, unwrap_or, nat_lt}
+use Rattle.std.proofs.lemmas.List.{length-append, take-append-le, drop-append-le, length-drop, length-take-le}
+use Rattle.std.proofs.lemmas.List.{take-append-drop, get_or_append_left}
 use Rattle.std.proofs.lemmas.Bool.{ltb-false, le-ltb, or_parts, eqb-false, eqb-true, cases_Bool}
 use Rattle.std.specs.Prelude.{◌||◌, ◌==◌, ◌&&◌, not, slice_index, slice_range, if◌then◌else◌}
 use Rattle.std.specs.Int.{w16, from_be_bytes}
 use Rattle.xb_words.specs.Octets.{all_are}
 use Rattle.xb_words.specs.Cut.{IsSize, IsStable, IsLocal}
-use Rattle.xb_wire.specs.declared.numbers.TheConstants.{MARKER, HEADER, MAX_MESSAGE, KEEPALIVE, MESSAGE_HEADER_ERROR, CONNECTION_NOT_SYNCHRONIZED, BAD_MESSAGE_LENGTH, BAD_MESSAGE_TYPE}
-use Rattle.xb_wire.specs.Messages.{Notification, notification, message_size, header_fault, length_error, type_error, message_length, message_kind, is_bad_length, HasMessageLength}
+use Rattle.xb_wire.specs.declared.numbers.TheConstants.{MARKER, HEADER, MAX_MESSAGE, KEEPALIVE, MESSAGE_HEADER_ERROR}
+use Rattle.xb_wire.specs.declared.numbers.TheConstants.{CONNECTION_NOT_SYNCHRONIZED, BAD_MESSAGE_LENGTH}
+use Rattle.xb_wire.specs.declared.numbers.TheConstants.{BAD_MESSAGE_TYPE}
+use Rattle.xb_wire.specs.Messages.{Notification, notification, message_size, header_fault, length_error, type_error}
+use Rattle.xb_wire.specs.Messages.{message_length, message_kind, is_bad_length, HasMessageLength}
 
 -- a header's fault by the octets that it depends on
 abbrev header_fault_by : List ℕ → ℕ → ℕ → ℕ → List ℕ → Option Notification
@@ -27,7 +32,7 @@ by_parts : (s : List ℕ)
 by_parts s = refl
 
 -- what follows a header makes no difference to its fault
-header_fault-append : (s t : List ℕ) → 19 ≤ length s → header_fault (s ++ t) ≡ header_fault s
+pub header_fault-append : (s t : List ℕ) → 19 ≤ length s → header_fault (s ++ t) ≡ header_fault s
 header_fault-append s t h =
     let r = s ++ t in
     let m : take 16 r ≡ take 16 s = take-append-le 16 s t (omega (arith, h)) in

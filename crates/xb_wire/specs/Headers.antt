@@ -2,7 +2,8 @@
 use Rattle.std.specs.Prelude.{[], ◌∷◌}
 use Rattle.xb_words.specs.Octets.{two_octets}
 use Rattle.xb_wire.specs.Messages.{Notification, notification}
-use Rattle.xb_wire.specs.declared.numbers.TheConstants.{MESSAGE_HEADER_ERROR, CONNECTION_NOT_SYNCHRONIZED, BAD_MESSAGE_LENGTH, BAD_MESSAGE_TYPE}
+use Rattle.xb_wire.specs.declared.numbers.TheConstants.{MESSAGE_HEADER_ERROR, CONNECTION_NOT_SYNCHRONIZED}
+use Rattle.xb_wire.specs.declared.numbers.TheConstants.{BAD_MESSAGE_LENGTH, BAD_MESSAGE_TYPE}
 use Rattle.xb_wire.specs.declared.header.HeaderFault.{HeaderFault}
 use Rattle.xb_wire.specs.declared.header.HeaderFault.TheVariants.{Marker, Length, Kind}
 

@@ -1,8 +1,12 @@
 -- Messages of a stream (RFC 4271, sections 4.1 and 6.1): a marker of 16 octets, a length of 2, a type, and a body.
-use Rattle.std.specs.Prelude.{◌≡◌, ℕ, ◌+◌, ◌≤◌, Bool, List, [], ◌∷◌, ◌++◌, length, take, drop, slice_index, slice_range, replicate, Option, Some, None, nat_lt, ◌==◌, ◌&&◌, ◌||◌, not, if◌then◌else◌}
+use Rattle.std.specs.Prelude.{◌≡◌, ℕ, ◌+◌, ◌≤◌, Bool, List, [], ◌∷◌, ◌++◌, length, take, drop, slice_index, slice_range}
+use Rattle.std.specs.Prelude.{replicate, Option, Some, None, nat_lt, ◌==◌, ◌&&◌, ◌||◌, not, if◌then◌else◌}
 use Rattle.xb_words.specs.Octets.{two_at, two_octets, all_are}
 use Rattle.xb_words.specs.Cut.{Pieces, cut, IsItem}
-use Rattle.xb_wire.specs.declared.numbers.TheConstants.{MARKER, HEADER, MAX_MESSAGE, LEAST_OPEN, EMPTY_UPDATE, LEAST_NOTIFICATION, OPEN, UPDATE, NOTIFICATION, KEEPALIVE, MESSAGE_HEADER_ERROR, CONNECTION_NOT_SYNCHRONIZED, BAD_MESSAGE_LENGTH, BAD_MESSAGE_TYPE}
+use Rattle.xb_wire.specs.declared.numbers.TheConstants.{MARKER, HEADER, MAX_MESSAGE, LEAST_OPEN, EMPTY_UPDATE}
+use Rattle.xb_wire.specs.declared.numbers.TheConstants.{LEAST_NOTIFICATION, OPEN, UPDATE, NOTIFICATION, KEEPALIVE}
+use Rattle.xb_wire.specs.declared.numbers.TheConstants.{MESSAGE_HEADER_ERROR, CONNECTION_NOT_SYNCHRONIZED}
+use Rattle.xb_wire.specs.declared.numbers.TheConstants.{BAD_MESSAGE_LENGTH, BAD_MESSAGE_TYPE}
 
 -- what a NOTIFICATION says (RFC 4271, section 4.5)
 pub record Notification : Type 0 where

@@ -1,8 +1,11 @@
 -- Laws of `cut`, and of walks over the items that it cuts.
-use Rattle.std.proofs.Common.{◌≡◌, refl, sym, ap, ◌∙◌, ℕ, zero, suc, ◌+◌, ◌<◌, ◌≤◌, List, [], ◌∷◌, ◌++◌, length, take, drop, Option, Some, None, Ok, Err, arith}
-use Rattle.std.proofs.lemmas.List.{length-drop, length-take-le, take-append-drop, append_assoc, take-append-le, drop-append-le, take_at, drop_at}
+use Rattle.std.proofs.Common.{◌≡◌, refl, sym, ap, ◌∙◌, ℕ, zero, suc, ◌+◌, ◌<◌, ◌≤◌, List, [], ◌∷◌, ◌++◌, length, take}
+use Rattle.std.proofs.Common.{drop, Option, Some, None, Ok, Err, arith}
+use Rattle.std.proofs.lemmas.List.{length-drop, length-take-le, take-append-drop, append_assoc, take-append-le}
+use Rattle.std.proofs.lemmas.List.{drop-append-le, take_at, drop_at}
 use Rattle.std.specs.List.{concat, AllByRecursion}
-use Rattle.xb_words.specs.Cut.{Pieces, after_item, items_then, cut, cut_turns, walk, walk_from, IsSize, IsStable, IsLocal, IsItem}
+use Rattle.xb_words.specs.Cut.{Pieces, after_item, items_then, cut, cut_turns, walk, walk_from, IsSize, IsStable}
+use Rattle.xb_words.specs.Cut.{IsLocal, IsItem}
 
 -- a cut by what the size says of the item at the front
 abbrev pub cut_by : (List ℕ → Option ℕ) → List ℕ → ℕ → Option ℕ → Pieces

@@ -1,6 +1,7 @@
 -- What a write and a removal do to a list of entries by rising key, that each is undone by the other, and how the list
 -- is walked from each key to the next.
-use Rattle.std.proofs.Common.{◌≡◌, inl, inr, true, suc, List, [], ◌∷◌, length, Option, Some, None, filter, refl, sym, ◌∙◌, ap, subst}
+use Rattle.std.proofs.Common.{◌≡◌, inl, inr, true, suc, List, [], ◌∷◌, length, Option, Some, None, filter, refl, sym}
+use Rattle.std.proofs.Common.{◌∙◌, ap, subst}
 use Rattle.std.specs.Cmp.{IsTotalOrder}
 use Rattle.std.specs.List.{AllByRecursion}
 use Rattle.std.specs.List.Sorted.{IsStrictlySortedBy}
@@ -11,7 +12,8 @@ use Rattle.std.specs.declared.cmp.Ordering.TheVariants.{Less, Equal, Greater}
 use Rattle.std.proofs.lemmas.Bool.{cases_Bool}
 use Rattle.std.proofs.lemmas.Cmp.{tied_itself}
 use Rattle.xb_words.specs.Table.{value_at, with_value, without, entries_after, entry_after, first_of, IsRising}
-use Rattle.xb_words.proofs.TableSplitLemmas.{Each, IsRising-head, IsRising-tail, IsRising-cons, Each-trans, Each-congr, value_at-above, less_from_greater}
+use Rattle.xb_words.proofs.TableSplitLemmas.{Each, IsRising-head, IsRising-tail, IsRising-cons, Each-trans, Each-congr}
+use Rattle.xb_words.proofs.TableSplitLemmas.{value_at-above, less_from_greater}
 
 -- an ordering is one of three
 by_ordering : {P : Type 0} (r : Ordering) → (r ≡ Less → P) → (r ≡ Equal → P) → (r ≡ Greater → P) → P

@@ -1,7 +1,8 @@
 -- Items that follow one another: messages of a stream, prefixes, attributes, segments, parameters, lines (this
 -- project's own). A `size` says of a list how many octets the item at its front has; it is None if there is no whole
 -- item at the front.
-use Rattle.std.specs.Prelude.{◌≡◌, ℕ, zero, suc, ◌+◌, ◌<◌, ◌≤◌, List, [], ◌∷◌, ◌++◌, length, take, drop, Option, Some, None, Result, Ok, Err}
+use Rattle.std.specs.Prelude.{◌≡◌, ℕ, zero, suc, ◌+◌, ◌<◌, ◌≤◌, List, [], ◌∷◌, ◌++◌, length, take, drop, Option, Some}
+use Rattle.std.specs.Prelude.{None, Result, Ok, Err}
 
 -- the items, each with all its octets, and what is left after the last of them
 pub record Pieces : Type 0 where

@@ -1,5 +1,6 @@
 -- Every accepted configuration keeps its ranges, limits and differences.
-use Rattle.std.proofs.Common.{◌≡◌, ◌≢◌, ℕ, ◌-◌, ◌^◌, ◌<◌, ◌≤◌, true, false, not, ◌||◌, List, [], ◌∷◌, ◌++◌, length, get_or, Ok, Err, refl, ap, sym, ◌∙◌, arith, inl, inr}
+use Rattle.std.proofs.Common.{◌≡◌, ◌≢◌, ℕ, ◌-◌, ◌^◌, ◌<◌, ◌≤◌, true, false, not, ◌||◌, List, [], ◌∷◌, ◌++◌, length}
+use Rattle.std.proofs.Common.{get_or, Ok, Err, refl, ap, sym, ◌∙◌, arith, inl, inr}
 use Rattle.std.specs.Prelude.{◌==◌, IsTrue, codes, nat_le}
 use Rattle.std.specs.List.{list_any, All, AllPairs}
 use Rattle.std.proofs.lemmas.Bool.{and_parts, or_parts, leb-true, eq-eqb, eqb-false, false≢true}
@@ -11,15 +12,20 @@ use Rattle.xb_domain.specs.declared.bad.Part.TheVariants.{Top, Speaker, Network,
 use Rattle.xb_values.specs.Prefixes.{Prefix, IsPrefix}
 use Rattle.xb_values.specs.Readers.{read_dotted, read_prefix}
 use Rattle.xb_fields.specs.declared.fault.Location.{Location}
-use Rattle.xb_fields.specs.Fields.{Judged, ◌>>=◌, document, location, required, optional, number, text, judged_entries, is_between, keys_listed, table_with, list_of}
+use Rattle.xb_fields.specs.Fields.{Judged, ◌>>=◌, document, location, required, optional, number, text, judged_entries}
+use Rattle.xb_fields.specs.Fields.{is_between, keys_listed, table_with, list_of}
 use Rattle.xb_fields.proofs.StepLemmas.{bind-ok, ok-injective, judged_from-keeps, length-judged_from}
-use Rattle.xb_fields.proofs.FieldLemmas.{bind-must, number-ok, required_number-ok, text-ok, required-ok, optional-ok, length-optional_list, not-true, list_any-false}
+use Rattle.xb_fields.proofs.FieldLemmas.{bind-must, number-ok, required_number-ok, text-ok, required-ok, optional-ok}
+use Rattle.xb_fields.proofs.FieldLemmas.{length-optional_list, not-true, list_any-false}
 use Rattle.xbgp_config.specs.declared.speaker.SpeakerFields.{SpeakerFields}
 use Rattle.xbgp_config.specs.declared.speaker.SpeakerPart.{SpeakerPart}
 use Rattle.xbgp_config.specs.declared.lists.PeerEntry.{PeerEntry}
 use Rattle.xbgp_config.specs.declared.lists.CostEntry.{CostEntry}
-use Rattle.xbgp_config.specs.declared.limits.TheConstants.{MAX_AS, MAX_PEERS, MAX_NETWORKS, MAX_COSTS, MAX_HOLD, DEFAULT_HOLD, DEFAULT_LOCAL_PREF}
-use Rattle.xbgp_config.specs.Configs.{Config, IsConfig, is_as, is_hold, is_host_address, same_prefix, host_text, id_text, hold_time, speaker_fields, speaker_part, network_entry, peer_fields, peer_entry, cost_fields, cost_entry, speaker_keys, config_keys, config_of, config}
+use Rattle.xbgp_config.specs.declared.limits.TheConstants.{MAX_AS, MAX_PEERS, MAX_NETWORKS, MAX_COSTS, MAX_HOLD}
+use Rattle.xbgp_config.specs.declared.limits.TheConstants.{DEFAULT_HOLD, DEFAULT_LOCAL_PREF}
+use Rattle.xbgp_config.specs.Configs.{Config, IsConfig, is_as, is_hold, is_host_address, same_prefix, host_text}
+use Rattle.xbgp_config.specs.Configs.{id_text, hold_time, speaker_fields, speaker_part, network_entry, peer_fields}
+use Rattle.xbgp_config.specs.Configs.{peer_entry, cost_fields, cost_entry, speaker_keys, config_keys, config_of, config}
 use Rattle.xbgp_config.proofs.AddressLemmas.{read_prefix-IsPrefix, passing-some}
 
 -- the ranges of the speaker's fields

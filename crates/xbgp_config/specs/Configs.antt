@@ -1,5 +1,6 @@
 -- The configuration that a text gives, or its first fault (this project's own).
-use Rattle.std.specs.Prelude.{◌≡◌, ◌≢◌, ℕ, ◌-◌, ◌/◌, ◌^◌, ◌≤◌, Bool, List, [], ◌∷◌, length, Option, Some, None, Result, Ok, codes, nat_le, ◌==◌, ◌&&◌, ◌||◌, not, if◌then◌else◌, IsTrue}
+use Rattle.std.specs.Prelude.{◌≡◌, ◌≢◌, ℕ, ◌-◌, ◌/◌, ◌^◌, ◌≤◌, Bool, List, [], ◌∷◌, length, Option, Some, None, Result}
+use Rattle.std.specs.Prelude.{Ok, codes, nat_le, ◌==◌, ◌&&◌, ◌||◌, not, if◌then◌else◌, IsTrue}
 use Rattle.std.specs.List.{list_any, All, AllPairs}
 use Rattle.bgp_attr.specs.Rules.{is_host}
 use Rattle.toml.specs.Data.{Data, Members}
@@ -9,10 +10,12 @@ use Rattle.xb_domain.specs.declared.side.Side.{Side}
 use Rattle.xb_values.specs.Prefixes.{Prefix, IsPrefix}
 use Rattle.xb_values.specs.Readers.{read_dotted, read_prefix}
 use Rattle.xb_fields.specs.declared.fault.FieldFault.{FieldFault}
-use Rattle.xb_fields.specs.Fields.{Judged, ◌>>=◌, location, must, document, keys_listed, table_with, number, text, required, optional, list_of, judged_entries, is_between}
+use Rattle.xb_fields.specs.Fields.{Judged, ◌>>=◌, location, must, document, keys_listed, table_with, number, text}
+use Rattle.xb_fields.specs.Fields.{required, optional, list_of, judged_entries, is_between}
 use Rattle.xbgp_config.specs.declared.speaker.SpeakerFields.{SpeakerFields}
 use Rattle.xbgp_config.specs.declared.speaker.SpeakerPart.{SpeakerPart}
-use Rattle.xbgp_config.specs.declared.limits.TheConstants.{MAX_AS, MAX_PEERS, MAX_NETWORKS, MAX_COSTS, MIN_HOLD, MAX_HOLD, DEFAULT_HOLD, DEFAULT_LOCAL_PREF}
+use Rattle.xbgp_config.specs.declared.limits.TheConstants.{MAX_AS, MAX_PEERS, MAX_NETWORKS, MAX_COSTS, MIN_HOLD}
+use Rattle.xbgp_config.specs.declared.limits.TheConstants.{MAX_HOLD, DEFAULT_HOLD, DEFAULT_LOCAL_PREF}
 use Rattle.xbgp_config.specs.declared.lists.PeerEntry.{PeerEntry}
 use Rattle.xbgp_config.specs.declared.lists.CostEntry.{CostEntry}
 

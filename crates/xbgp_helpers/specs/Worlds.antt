@@ -30,7 +30,7 @@ pub record World : Type 0 where
   -- how many octets of the heap this program run has taken
   pub mark : ℕ
 
--- a side that is no party's, and a prefix that stands for none
+-- a side of no party, and a prefix for points that have none
 abbrev pub nobody : Side
 nobody = record { number = 0; asn = 0; address = 0; id = 0; kind = 0 }
 

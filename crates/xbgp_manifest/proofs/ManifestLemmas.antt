@@ -1,5 +1,6 @@
 -- Every accepted manifest keeps its ranges and limits, that names differ, and loaded code.
-use Rattle.std.proofs.Common.{◌≡◌, ◌≢◌, ℕ, ◌<◌, ◌≤◌, true, false, not, List, [], ◌∷◌, ◌++◌, length, map, get_or, Option, Some, None, Result, Ok, Err, refl, ap, sym, ◌∙◌, arith}
+use Rattle.std.proofs.Common.{◌≡◌, ◌≢◌, ℕ, ◌<◌, ◌≤◌, true, false, not, List, [], ◌∷◌, ◌++◌, length, map, get_or, Option}
+use Rattle.std.proofs.Common.{Some, None, Result, Ok, Err, refl, ap, sym, ◌∙◌, arith}
 use Rattle.std.specs.Prelude.{IsTrue, codes, nat_le}
 use Rattle.std.specs.Str.{bytes_eq}
 use Rattle.std.specs.List.{list_any, All, AllPairs, AllByRecursion}
@@ -19,9 +20,11 @@ use Rattle.xb_domain.specs.declared.bad.BadKind.TheVariants.{Key, Room, Double}
 use Rattle.xb_domain.specs.declared.bad.Part.TheVariants.{Top, Map, Program}
 use Rattle.xb_fields.specs.declared.fault.FieldFault.{FieldFault}
 use Rattle.xb_fields.specs.declared.fault.Location.{Location}
-use Rattle.xb_fields.specs.Fields.{Judged, ◌>>=◌, document, location, required, optional, number, text, judged_entries, keys_listed, table_with, list_of, fault_at}
+use Rattle.xb_fields.specs.Fields.{Judged, ◌>>=◌, document, location, required, optional, number, text, judged_entries}
+use Rattle.xb_fields.specs.Fields.{keys_listed, table_with, list_of, fault_at}
 use Rattle.xb_fields.proofs.StepLemmas.{bind-ok, ok-injective, judged_from-keeps, length-judged_from}
-use Rattle.xb_fields.proofs.FieldLemmas.{bind-must, required_number-ok, text-ok, required-ok, length-optional_list, some-if, not-true, list_any-false}
+use Rattle.xb_fields.proofs.FieldLemmas.{bind-must, required_number-ok, text-ok, required-ok, length-optional_list}
+use Rattle.xb_fields.proofs.FieldLemmas.{some-if, not-true, list_any-false}
 use Rattle.xbgp_maps.specs.declared.shape.MapShape.{MapShape}
 use Rattle.xbgp_maps.specs.Mappings.{is_from_1_to}
 use Rattle.xbgp_maps.specs.declared.limits.TheConstants.{MAX_MAPS, MAX_KEY, MAX_VALUE, MAX_ENTRIES, MAX_ROOM}
@@ -29,7 +32,10 @@ use Rattle.xbgp_manifest.specs.declared.limits.TheConstants.{VERSION, MAX_PROGRA
 use Rattle.xbgp_manifest.specs.declared.fault.ManifestFault.{ManifestFault}
 use Rattle.xbgp_manifest.specs.declared.entries.MapEntry.{MapEntry}
 use Rattle.xbgp_manifest.specs.declared.entries.ProgramEntry.{ProgramEntry}
-use Rattle.xbgp_manifest.specs.Manifests.{Manifest, IsManifest, IsProgram, is_name, is_fuel, entry_shapes, room_of, in_slot, in_no_slot, name_text, point_text, code_text, map_shape, map_keys, map_fields, map_entry, load_bad, program_keys, program_fields, named_program, loaded_program, program_entry, manifest_keys, maps_of, manifest_of, manifest}
+use Rattle.xbgp_manifest.specs.Manifests.{Manifest, IsManifest, IsProgram, is_name, is_fuel, entry_shapes, room_of}
+use Rattle.xbgp_manifest.specs.Manifests.{in_slot, in_no_slot, name_text, point_text, code_text, map_shape, map_keys}
+use Rattle.xbgp_manifest.specs.Manifests.{map_fields, map_entry, load_bad, program_keys, program_fields, named_program}
+use Rattle.xbgp_manifest.specs.Manifests.{loaded_program, program_entry, manifest_keys, maps_of, manifest_of, manifest}
 use Rattle.xb_words.proofs.ListLemmas.{AllByRecursion-push}
 
 -- a judgement of fields that gives a value

@@ -1,5 +1,6 @@
 -- The manifest that a text gives, or its first fault (this project's own).
-use Rattle.std.specs.Prelude.{◌≡◌, ◌≢◌, ℕ, ◌*◌, ◌≤◌, Bool, List, [], ◌∷◌, length, map, sum_by, Option, Some, None, Result, Ok, Err, codes, nat_le, ◌==◌, ◌&&◌, ◌||◌, not, if◌then◌else◌, IsTrue}
+use Rattle.std.specs.Prelude.{◌≡◌, ◌≢◌, ℕ, ◌*◌, ◌≤◌, Bool, List, [], ◌∷◌, length, map, sum_by, Option, Some, None}
+use Rattle.std.specs.Prelude.{Result, Ok, Err, codes, nat_le, ◌==◌, ◌&&◌, ◌||◌, not, if◌then◌else◌, IsTrue}
 use Rattle.std.specs.List.{list_any, list_all, All, AllPairs}
 use Rattle.std.specs.Result.{result_map_both, result_ok}
 use Rattle.std.specs.Str.{bytes_eq}
@@ -18,7 +19,8 @@ use Rattle.xb_domain.specs.declared.bad.BadKind.TheVariants as kinds
 use Rattle.xb_domain.specs.declared.bad.Part.TheVariants.{Top, Map, Program}
 use Rattle.xb_fields.specs.declared.fault.FieldFault.{FieldFault}
 use Rattle.xb_fields.specs.declared.fault.Location.{Location}
-use Rattle.xb_fields.specs.Fields.{Judged, ◌>>=◌, location, must, document, keys_listed, table_with, number, text, required, optional, list_of, judged_entries, is_between}
+use Rattle.xb_fields.specs.Fields.{Judged, ◌>>=◌, location, must, document, keys_listed, table_with, number, text}
+use Rattle.xb_fields.specs.Fields.{required, optional, list_of, judged_entries, is_between}
 use Rattle.xbgp_maps.specs.declared.shape.MapShape.{MapShape}
 use Rattle.xbgp_maps.specs.declared.limits.TheConstants.{MAX_MAPS, MAX_KEY, MAX_VALUE, MAX_ENTRIES, MAX_ROOM}
 use Rattle.xbgp_maps.specs.Mappings.{entry_size, AreWithinLimits}

@@ -6,7 +6,8 @@ use Rattle.std.proofs.Math.Nat.{two-pow-succ}
 use Rattle.xbgp_maps.specs.declared.limits.TheConstants.{MAX_ENTRIES, MAX_LEVELS}
 use Rattle.xbgp_maps.specs.declared.node.Tree.{Tree, Leaf, Fork'}
 use Rattle.xbgp_maps.specs.declared.node.Node.{Node}
-use Rattle.xbgp_maps.specs.Trees.{entries_of, height_of, left_of, right_of, IsLevel, IsBalanced, IsLow, IsTurnedRight, IsTurnedLeft, LeansLeft, LeansRight}
+use Rattle.xbgp_maps.specs.Trees.{entries_of, height_of, left_of, right_of, IsLevel, IsBalanced, IsLow, IsTurnedRight}
+use Rattle.xbgp_maps.specs.Trees.{IsTurnedLeft, LeansLeft, LeansRight}
 
 -- a tree is balanced if its sides are and its height is level with theirs
 pub IsBalanced-of_sides : (t : Tree) → IsLevel (height_of t) (height_of (left_of t)) (height_of (right_of t)) → IsBalanced (left_of t) → IsBalanced (right_of t) → IsBalanced t

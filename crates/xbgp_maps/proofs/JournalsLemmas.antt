@@ -1,5 +1,7 @@
 -- A write and a removal are taken back, one alone and many from the last to the first.
-use Rattle.std.proofs.Common.{◌≡◌, ℕ, zero, suc, ◌+◌, ◌-◌, ◌<◌, ◌≤◌, Bool, true, false, IsTrue, if◌then◌else◌, nat_le, is_some, List, [], ◌∷◌, ◌++◌, length, take, Option, Some, None, MatchOption, IfSome, IsSome, refl, sym, ◌∙◌, ap, subst, arith, length-append}
+use Rattle.std.proofs.Common.{◌≡◌, ℕ, zero, suc, ◌+◌, ◌-◌, ◌<◌, ◌≤◌, Bool, true, false, IsTrue, if◌then◌else◌, nat_le}
+use Rattle.std.proofs.Common.{is_some, List, [], ◌∷◌, ◌++◌, length, take, Option, Some, None, MatchOption, IfSome}
+use Rattle.std.proofs.Common.{IsSome, refl, sym, ◌∙◌, ap, subst, arith, length-append}
 use Rattle.std.specs.List.{slice_get, slice_set, AllByRecursion}
 use Rattle.std.proofs.lemmas.Cmp.{nat_list_cmp_total}
 use Rattle.std.proofs.lemmas.Map.Lookups.{exact_bytes}
@@ -13,10 +15,14 @@ use Rattle.xbgp_maps.specs.declared.shape.Put.TheVariants as puts
 use Rattle.xbgp_maps.specs.declared.shape.Remove.{Remove}
 use Rattle.xbgp_maps.specs.declared.shape.Remove.TheVariants as removes
 use Rattle.xb_words.specs.Table.{without}
-use Rattle.xbgp_maps.specs.Mappings.{Mapping, IsMapping, Journalled, key_cmp, mapping_at, value_in, put_in, taken_from, put_answer, remove_answer, after_put, after_remove, is_full, written, empty_maps, is_from_1_to, shapes_of, closed, AreWithinLimits, HasWidths, IsShape}
+use Rattle.xbgp_maps.specs.Mappings.{Mapping, IsMapping, Journalled, key_cmp, mapping_at, value_in, put_in, taken_from}
+use Rattle.xbgp_maps.specs.Mappings.{put_answer, remove_answer, after_put, after_remove, is_full, written, empty_maps}
+use Rattle.xbgp_maps.specs.Mappings.{is_from_1_to, shapes_of, closed, AreWithinLimits, HasWidths, IsShape}
 use Rattle.xbgp_maps.specs.declared.limits.TheConstants.{MAX_KEY, MAX_VALUE, BUDGET}
-use Rattle.xbgp_maps.specs.Journals.{Write, write_of, restored, taken_back, all_taken_back, CanTakeBack, CanTakeAllBack, IsNarrow, IsUndoable, journal_view, when_done, was_put, was_removed}
-use Rattle.xb_words.proofs.TableLemmas.{value_at-some, without-with_value, with_value-with_value, with_value-without, value_at-with_value, length-without}
+use Rattle.xbgp_maps.specs.Journals.{Write, write_of, restored, taken_back, all_taken_back, CanTakeBack, CanTakeAllBack}
+use Rattle.xbgp_maps.specs.Journals.{IsNarrow, IsUndoable, journal_view, when_done, was_put, was_removed}
+use Rattle.xb_words.proofs.TableLemmas.{value_at-some, without-with_value, with_value-with_value, with_value-without}
+use Rattle.xb_words.proofs.TableLemmas.{value_at-with_value, length-without}
 
 get_again : (maps : List Mapping) (n : ℕ) (m after : Mapping) → slice_get maps n ≡ Some m → slice_get (slice_set maps n after) n ≡ Some after
 get_again [] n m after there = absurd (cc there)

@@ -1,5 +1,6 @@
 -- A table stays one when a value is replaced, a new key is written or a key is removed.
-use Rattle.std.proofs.Common.{◌≡◌, ℕ, true, false, if◌then◌else◌, suc, ◌+◌, ◌<◌, ◌≤◌, List, [], ◌∷◌, ◌++◌, length, map, Option, Some, None, IsSome, IfSome, refl, sym, ◌∙◌, ap, subst, arith, length-append}
+use Rattle.std.proofs.Common.{◌≡◌, ℕ, true, false, if◌then◌else◌, suc, ◌+◌, ◌<◌, ◌≤◌, List, [], ◌∷◌, ◌++◌, length, map}
+use Rattle.std.proofs.Common.{Option, Some, None, IsSome, IfSome, refl, sym, ◌∙◌, ap, subst, arith, length-append}
 use Rattle.std.specs.List.{AllByRecursion}
 use Rattle.std.specs.List.Sorted.{IsStrictlySortedBy}
 use Rattle.std.proofs.lemmas.List.{length-map, map-append}
@@ -14,7 +15,10 @@ use Rattle.xbgp_maps.specs.Mappings.{Mapping, HasWidths, IsMapping, key_cmp, val
 use Rattle.xbgp_maps.specs.Tables.{IsTable, IsBlank}
 use Rattle.xbgp_maps.specs.Trees.{HaveWidth, IsAlone}
 use Rattle.xb_words.proofs.ListLemmas.{AllByRecursion-left, AllByRecursion-right, AllByRecursion-push}
-use Rattle.xb_words.proofs.TableLemmas.{AllByRecursion-with_value, AllByRecursion-without, AllByRecursion-with_value-over, value_at-some, length-with_value-new, length-without, length-with_value-over, without-absent, IsRising-with_value, IsRising-without}
+use Rattle.xb_words.proofs.TableLemmas.{AllByRecursion-with_value, AllByRecursion-without}
+use Rattle.xb_words.proofs.TableLemmas.{AllByRecursion-with_value-over, value_at-some, length-with_value-new}
+use Rattle.xb_words.proofs.TableLemmas.{length-without, length-with_value-over, without-absent, IsRising-with_value}
+use Rattle.xb_words.proofs.TableLemmas.{IsRising-without}
 
 abbrev Entries : Type 0
 Entries = List (List ℕ × List ℕ)

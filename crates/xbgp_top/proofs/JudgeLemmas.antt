@@ -1,5 +1,6 @@
 -- The verdicts that are still to come in a walk over messages, and the offset at which the walk is refused.
-use Rattle.std.proofs.Common.{◌≡◌, ℕ, ◌+◌, List, [], ◌∷◌, ◌++◌, length, map, flat_map, Option, Some, None, Result, Ok, Err, if◌then◌else◌, refl, sym, ◌∙◌, ap, arith, length-append}
+use Rattle.std.proofs.Common.{◌≡◌, ℕ, ◌+◌, List, [], ◌∷◌, ◌++◌, length, map, flat_map, Option, Some, None, Result, Ok}
+use Rattle.std.proofs.Common.{Err, if◌then◌else◌, refl, sym, ◌∙◌, ap, arith, length-append}
 use Rattle.std.specs.Prelude.{◌==◌}
 use Rattle.std.specs.List.{concat}
 use Rattle.std.proofs.Math.Dec.{eqb-suc-zero}
@@ -7,7 +8,8 @@ use Rattle.xb_words.specs.Cut.{walk, walk_from, with_offsets}
 use Rattle.xb_wire.specs.Messages.{split}
 use Rattle.bgp_update.specs.Walks.{FoundMessage, found_message, messages_from}
 use Rattle.xbgp_top.specs.declared.status.Status.TheVariants.{Done, BadStream}
-use Rattle.xbgp_top.specs.Answers.{Outcome, answered, end_line, ended, judge_line, judge_lines, judge_outcome, rest_offset}
+use Rattle.xbgp_top.specs.Answers.{Outcome, answered, end_line, ended, judge_line, judge_lines, judge_outcome}
+use Rattle.xbgp_top.specs.Answers.{rest_offset}
 
 -- the offset at which the walk is refused, if it is
 abbrev pub rest_of : List (Result FoundMessage ℕ) → Option ℕ

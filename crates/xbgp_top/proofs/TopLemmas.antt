@@ -1,5 +1,6 @@
 -- How a step over a shelf and one over a sink make a run.
-use Rattle.std.proofs.Common.{◌≡◌, ◌≢◌, ◌⊎◌, ℕ, List, [], Option, Some, None, ◌++◌, Ok, Err, refl, sym, ◌∙◌, ap, subst, inl, inr, arith}
+use Rattle.std.proofs.Common.{◌≡◌, ◌≢◌, ◌⊎◌, ℕ, List, [], Option, Some, None, ◌++◌, Ok, Err, refl, sym, ◌∙◌, ap, subst}
+use Rattle.std.proofs.Common.{inl, inr, arith}
 use Rattle.std.specs.Result.{IfErr}
 use Rattle.std.proofs.lemmas.List.{take_all}
 use Rattle.xb_values.specs.Texts.{line}
@@ -11,8 +12,11 @@ use Rattle.xbgp_top.specs.declared.command.Job.{Job}
 use Rattle.xbgp_top.specs.declared.command.Job.TheVariants.{Heard, Judge, Exec}
 use Rattle.xbgp_top.specs.declared.status.File.TheVariants.{Input}
 use Rattle.xbgp_top.specs.declared.status.Status.{Status}
-use Rattle.xbgp_top.specs.declared.status.Status.TheVariants.{Done, Usage, ReadFault, WriteFault, OutOfMemory, BadStream, BadCode}
-use Rattle.xbgp_top.specs.Answers.{Answer, Outcome, ◌>>=◌, alone, answer, check_outcome, command_answer, end_line, end_words, ended, file_outcome, input, job_outcome, judge_lines, no_helper, rest_offset, table_lines}
+use Rattle.xbgp_top.specs.declared.status.Status.TheVariants.{Done, Usage, ReadFault, WriteFault, OutOfMemory}
+use Rattle.xbgp_top.specs.declared.status.Status.TheVariants.{BadStream, BadCode}
+use Rattle.xbgp_top.specs.Answers.{Answer, Outcome, ◌>>=◌, alone, answer, check_outcome, command_answer, end_line}
+use Rattle.xbgp_top.specs.Answers.{end_words, ended, file_outcome, input, job_outcome, judge_lines, no_helper}
+use Rattle.xbgp_top.specs.Answers.{rest_offset, table_lines}
 use Rattle.xbgp_top.specs.Commands.{Command, check, command_of, on_file}
 use Rattle.xbgp_top.specs.Inputs.{Gives, Obtains}
 use Rattle.xbgp_top.specs.Outputs.{Writes}

@@ -2,7 +2,8 @@
 use Rattle.std.specs.Prelude.{ℕ}
 use Rattle.xbgp_top.specs.declared.status.File.{File}
 use Rattle.xbgp_top.specs.declared.status.Status.{Status}
-use Rattle.xbgp_top.specs.declared.status.Status.TheVariants.{Done, Usage, ReadFault, WriteFault, OutOfMemory, TooLong, BadConfig, BadManifest, BadStream, BadCode}
+use Rattle.xbgp_top.specs.declared.status.Status.TheVariants.{Done, Usage, ReadFault, WriteFault, OutOfMemory, TooLong}
+use Rattle.xbgp_top.specs.declared.status.Status.TheVariants.{BadConfig, BadManifest, BadStream, BadCode}
 use Rattle.xb_fields.specs.declared.fault.FieldError.{FieldError}
 use Rattle.xb_fields.specs.declared.fault.FieldError.TheVariants as configs
 use Rattle.xbgp_manifest.specs.declared.fault.ManifestError.{ManifestError}

@@ -1,5 +1,6 @@
 -- A canonical section is read as the route that it was written from.
-use Rattle.std.proofs.Common.{◌≡◌, inl, inr, refl, sym, ap, subst, ◌∙◌, ℕ, ◌+◌, ◌^◌, ◌<◌, ◌≤◌, Bool, true, false, cond, List, [], ◌∷◌, ◌++◌, length, map, Some, arith, nat_le, nat_lt}
+use Rattle.std.proofs.Common.{◌≡◌, inl, inr, refl, sym, ap, subst, ◌∙◌, ℕ, ◌+◌, ◌^◌, ◌<◌, ◌≤◌, Bool, true, false, cond}
+use Rattle.std.proofs.Common.{List, [], ◌∷◌, ◌++◌, length, map, Some, arith, nat_le, nat_lt}
 use Rattle.std.specs.Prelude.{bit_and, bit_or, ◌==◌, not}
 use Rattle.std.specs.List.{AllByRecursion, concat}
 use Rattle.std.proofs.lemmas.Bool.{cases_Bool, leb-true, le-leb}
@@ -9,7 +10,8 @@ use Rattle.std.specs.Int.Bits.{and_zero_r}
 use Rattle.xb_words.specs.Octets.{two_at, two_octets}
 use Rattle.xb_words.specs.Cut.{cut, IsStable, IsItem}
 use Rattle.xb_words.proofs.CutLemmas.{cut-concat}
-use Rattle.bgp_attr.specs.Attributes.{attribute_size, attr_flags, attr_code, attr_value, has_long_length, header_size, whole_size}
+use Rattle.bgp_attr.specs.Attributes.{attribute_size, attr_flags, attr_code, attr_value, has_long_length, header_size}
+use Rattle.bgp_attr.specs.Attributes.{whole_size}
 use Rattle.bgp_attr.specs.declared.TheConstants.{MAX_CANONICAL}
 use Rattle.bgp_attr.specs.Routes.{Attribute, Route, canon, canonical, kept_flags, IsEntry, IsRoute}
 use Rattle.bgp_attr.proofs.AttributesLemmas.{IsSize-attribute_size}

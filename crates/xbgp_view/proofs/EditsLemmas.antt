@@ -1,5 +1,6 @@
 -- An edited route is a route.
-use Rattle.std.proofs.Common.{◌≡◌, refl, sym, ap, subst, ◌∙◌, ℕ, ◌<◌, ◌≤◌, List, [], ◌∷◌, ◌++◌, length, take, drop, arith, ◌+◌, ◌-◌, true, false, is_some, suc}
+use Rattle.std.proofs.Common.{◌≡◌, refl, sym, ap, subst, ◌∙◌, ℕ, ◌<◌, ◌≤◌, List, [], ◌∷◌, ◌++◌, length, take, drop}
+use Rattle.std.proofs.Common.{arith, ◌+◌, ◌-◌, true, false, is_some, suc}
 use Rattle.std.specs.Prelude.{slice_index}
 use Rattle.std.specs.List.{AllByRecursion}
 use Rattle.std.specs.List.Sorted.{IsStrictlySortedBy}
@@ -13,7 +14,8 @@ use Rattle.std.proofs.lemmas.Nat.{and_assoc}
 use Rattle.xb_words.specs.Octets.{AreOctets}
 use Rattle.bgp_attr.specs.declared.TheConstants.{MAX_CANONICAL}
 use Rattle.bgp_attr.specs.declared.flags.TheConstants.{KEPT}
-use Rattle.bgp_attr.specs.Routes.{Attribute, Route, route_of, canon, canonical, kept_flags, attribute_at, with_attribute, without_attribute, IsEntry, IsRoute}
+use Rattle.bgp_attr.specs.Routes.{Attribute, Route, route_of, canon, canonical, kept_flags, attribute_at}
+use Rattle.bgp_attr.specs.Routes.{with_attribute, without_attribute, IsEntry, IsRoute}
 use Rattle.xbgp_view.specs.Sections.{IsCanonical, IsGap, below_code, from_code, past_code}
 use Rattle.xbgp_view.proofs.LowerLemmas.{with_value-at_code, without-at_code}
 use Rattle.xbgp_view.proofs.FoundLemmas.{canon-append}

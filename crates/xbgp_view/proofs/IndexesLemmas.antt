@@ -1,5 +1,6 @@
 -- An index is a route by rising code: looked up, walked by code, and set at a code.
-use Rattle.std.proofs.Common.{◌≡◌, refl, sym, ap, ◌∙◌, ℕ, zero, suc, ◌+◌, ◌<◌, ◌≤◌, true, false, List, [], ◌∷◌, length, get_or, fold, Option, Some, None, arith, zero-add}
+use Rattle.std.proofs.Common.{◌≡◌, refl, sym, ap, ◌∙◌, ℕ, zero, suc, ◌+◌, ◌<◌, ◌≤◌, true, false, List, [], ◌∷◌, length}
+use Rattle.std.proofs.Common.{get_or, fold, Option, Some, None, arith, zero-add}
 use Rattle.std.specs.Prelude.{is_some, replicate, slice_set}
 use Rattle.std.specs.Option.{option_map}
 use Rattle.std.specs.List.{AllByRecursion}
@@ -17,7 +18,8 @@ use Rattle.bgp_attr.specs.Walks.{found_attr, overrun, attributes_from}
 use Rattle.xbgp_view.specs.Indexes.{index_route, walked_route}
 use Rattle.xbgp_view.specs.Sections.{kept_attr}
 use Rattle.xbgp_view.specs.Views.{code_from}
-use Rattle.xbgp_view.proofs.LowerLemmas.{nat_cmp-less, nat_cmp-equal, nat_cmp-greater, lt-nat_cmp, eq-nat_cmp, gt-nat_cmp, below_none, past_all}
+use Rattle.xbgp_view.proofs.LowerLemmas.{nat_cmp-less, nat_cmp-equal, nat_cmp-greater, lt-nat_cmp, eq-nat_cmp}
+use Rattle.xbgp_view.proofs.LowerLemmas.{gt-nat_cmp, below_none, past_all}
 
 -- the keys of an index are at least its first code
 keys_above : (k code : ℕ) (index : List (Option Attr)) → k < code → AllByRecursion (λ x. nat_cmp k x ≡ Less) (keys_of (index_route code index))

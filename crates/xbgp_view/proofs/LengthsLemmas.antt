@@ -1,5 +1,6 @@
 -- Lengths of canonical sections: how an edit changes one, and that a section that is read and written again is no longer.
-use Rattle.std.proofs.Common.{◌≡◌, inl, inr, refl, sym, ap, subst, ◌∙◌, ℕ, zero, suc, ◌+◌, ◌<◌, ◌≤◌, Bool, true, false, cond, List, [], ◌∷◌, ◌++◌, length, take, drop, fold, Some, None, arith, nat_lt}
+use Rattle.std.proofs.Common.{◌≡◌, inl, inr, refl, sym, ap, subst, ◌∙◌, ℕ, zero, suc, ◌+◌, ◌<◌, ◌≤◌, Bool, true, false}
+use Rattle.std.proofs.Common.{cond, List, [], ◌∷◌, ◌++◌, length, take, drop, fold, Some, None, arith, nat_lt}
 use Rattle.std.specs.Prelude.{slice_index}
 use Rattle.std.specs.List.{AllByRecursion, concat}
 use Rattle.std.specs.List.Sorted.{IsStrictlySortedBy}
@@ -14,8 +15,10 @@ use Rattle.xb_words.specs.Table.{with_value}
 use Rattle.xb_words.proofs.CutLemmas.{IsItem-cut, concat-cut}
 use Rattle.xb_words.proofs.ListLemmas.{AllByRecursion-left, AllByRecursion-right}
 use Rattle.bgp_attr.specs.declared.TheConstants.{MAX_CANONICAL}
-use Rattle.bgp_attr.specs.Attributes.{attribute_size, attr_code, attr_flags, attr_value, has_long_length, header_size, value_size, whole_size}
-use Rattle.bgp_attr.specs.Routes.{Attribute, Route, attribute_at, canon, canonical, kept_flags, route_of, with_attribute, IsEntry, IsRoute}
+use Rattle.bgp_attr.specs.Attributes.{attribute_size, attr_code, attr_flags, attr_value, has_long_length, header_size}
+use Rattle.bgp_attr.specs.Attributes.{value_size, whole_size}
+use Rattle.bgp_attr.specs.Routes.{Attribute, Route, attribute_at, canon, canonical, kept_flags, route_of}
+use Rattle.bgp_attr.specs.Routes.{with_attribute, IsEntry, IsRoute}
 use Rattle.bgp_attr.proofs.AttributesLemmas.{IsSize-attribute_size}
 use Rattle.xbgp_view.specs.Sections.{entry_octets}
 use Rattle.xbgp_view.proofs.CanonicalLemmas.{attribute_size-some}

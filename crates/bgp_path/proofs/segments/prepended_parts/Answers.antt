@@ -5,7 +5,8 @@ use Rattle.bgp_attr.specs.Paths.{number_octets}
 use Rattle.bgp_attr.specs.Paths.{width_of}
 use Rattle.bgp_path.specs.Views.{segment_view}
 use Rattle.bgp_path.proofs.NumbersLemmas.{AreOctets-from_get_or}
-use Rattle.bgp_path.proofs.PrependLemmas.{path_ok-prepend-new, path_ok-prepend-open, path_octets-prepend-new, prepend-full_or_set, path_octets-prepend-open, prepend-no_segment}
+use Rattle.bgp_path.proofs.PrependLemmas.{path_ok-prepend-new, path_ok-prepend-open, path_octets-prepend-new}
+use Rattle.bgp_path.proofs.PrependLemmas.{prepend-full_or_set, path_octets-prepend-open, prepend-no_segment}
 use Rattle.bgp_path.proofs.segments.prepended_parts.Goals as goal
 
 pub returns-in_default-clause-octets : goal.returns-in_default-clause-octets

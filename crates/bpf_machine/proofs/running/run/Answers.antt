@@ -1,6 +1,8 @@
 use Rattle.std.proofs.Common.{◌≡◌, refl, ◌∙◌, arith}
 use Rattle.bpf_insn.proofs.LoadLemmas.{begins-first}
-use Rattle.bpf_machine.proofs.RunLemmas.{Has-parts, turns-bpf, ended-no_fuel, turns-Goes, ended-Ends, ended-Faults, turns-Value, ended-Next, ended-Misuse, begins-Goes, begins-Calls, allowed-Calls}
+use Rattle.bpf_machine.proofs.RunLemmas.{Has-parts, turns-bpf, ended-no_fuel, turns-Goes, ended-Ends, ended-Faults}
+use Rattle.bpf_machine.proofs.RunLemmas.{turns-Value, ended-Next, ended-Misuse, begins-Goes, begins-Calls}
+use Rattle.bpf_machine.proofs.RunLemmas.{allowed-Calls}
 use Rattle.bpf_machine.proofs.running.run.Goals as goal
 
 pub instructions-init : goal.instructions-init

@@ -1,5 +1,6 @@
 use Rattle.std.proofs.Common.{◌≡◌, ◌⊎◌, arith}
-use Rattle.bpf_machine.proofs.StepLemmas.{Does-same, insn_step-arithmetic, insn_step-jump, insn_step-wide, insn_step-load, insn_step-store, insn_step-register_store}
+use Rattle.bpf_machine.proofs.StepLemmas.{Does-same, insn_step-arithmetic, insn_step-jump, insn_step-wide}
+use Rattle.bpf_machine.proofs.StepLemmas.{insn_step-load, insn_step-store, insn_step-register_store}
 use Rattle.bpf_machine.proofs.step.take_insn.Goals as goal
 
 pub returns-in-0 : goal.returns-in-0

@@ -1,4 +1,5 @@
-use Rattle.std.proofs.Common.{◌≡◌, ◌∙◌, sym, ap, subst, ◌+◌, ◌++◌, [], ◌∷◌, arith, ℕ, true, false, List, length, Some, None}
+use Rattle.std.proofs.Common.{◌≡◌, ◌∙◌, sym, ap, subst, ◌+◌, ◌++◌, [], ◌∷◌, arith, ℕ, true, false, List, length, Some}
+use Rattle.std.proofs.Common.{None}
 use Rattle.xb_domain.specs.declared.side.Side.{Side}
 use Rattle.bgp_attr.specs.Routes.{Route}
 use Rattle.spk_model.specs.Routing.{Chosen}

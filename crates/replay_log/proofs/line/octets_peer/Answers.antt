@@ -1,7 +1,9 @@
 use Rattle.std.proofs.Common.{sym}
-use Rattle.replay_log.proofs.LineLemmas.{event_of_words-lone_in, none-in_words, octets-in_words, none-empty_in, none-bad_in}
+use Rattle.replay_log.proofs.LineLemmas.{event_of_words-lone_in, none-in_words, octets-in_words, none-empty_in}
+use Rattle.replay_log.proofs.LineLemmas.{none-bad_in}
 use Rattle.replay_log.proofs.line.octets_peer.Goals as goal
-use Rattle.replay_log.proofs.line.octets_peer.Goals.{else-not-is_empty-via-then-not-is_empty+else-read_hex, else-not-is_empty-via-else-not-is_empty}
+use Rattle.replay_log.proofs.line.octets_peer.Goals.{else-not-is_empty-via-then-not-is_empty+else-read_hex}
+use Rattle.replay_log.proofs.line.octets_peer.Goals.{else-not-is_empty-via-else-not-is_empty}
 
 pub returns-in_err-peer-clause-event : goal.returns-in_err-peer-clause-event
 returns-in_err-peer-clause-event c = λ now. rw c.from_residual.ensures (sym (event_of_words-lone_in c.args.peers now c.args.arguments.now c.in_err-peer.ensures.whole))

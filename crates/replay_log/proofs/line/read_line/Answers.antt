@@ -2,9 +2,11 @@ use Rattle.std.proofs.Common.{◌≡◌, ◌∙◌, sym, true, codes, Some, None
 use Rattle.std.specs.Str.{bytes_eq}
 use Rattle.xb_domain.specs.Views.{event_view}
 use Rattle.xb_domain.specs.Events.{octets}
-use Rattle.replay_log.proofs.LineLemmas.{says-line_of, event_of_words-lone, says-line_of_in, blank_line-line_of, line_of-comment}
+use Rattle.replay_log.proofs.LineLemmas.{says-line_of, event_of_words-lone, says-line_of_in, blank_line-line_of}
+use Rattle.replay_log.proofs.LineLemmas.{line_of-comment}
 use Rattle.replay_log.proofs.line.read_line.Goals as goal
-use Rattle.replay_log.proofs.line.read_line.Goals.{then-is_empty-via-then-is_empty, then-is_empty-via-else-is_empty+then-line-eq35}
+use Rattle.replay_log.proofs.line.read_line.Goals.{then-is_empty-via-then-is_empty}
+use Rattle.replay_log.proofs.line.read_line.Goals.{then-is_empty-via-else-is_empty+then-line-eq35}
 
 pub returns-then-is_empty-clause-line : goal.returns-then-is_empty-clause-line
 returns-then-is_empty-clause-line c =

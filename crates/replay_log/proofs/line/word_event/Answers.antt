@@ -1,6 +1,7 @@
 use Rattle.std.proofs.Common.{◌≡◌, ◌∙◌, sym, true, false, codes, Some, None}
 use Rattle.std.specs.Str.{bytes_eq}
-use Rattle.replay_log.proofs.LineLemmas.{event_of_words-lone_room, room_event-words, time_event-words, peer_event_of-words, option_map-peer_event, none-peer_words, none-room_words}
+use Rattle.replay_log.proofs.LineLemmas.{event_of_words-lone_room, room_event-words, time_event-words}
+use Rattle.replay_log.proofs.LineLemmas.{peer_event_of-words, option_map-peer_event, none-peer_words, none-room_words}
 use Rattle.replay_log.specs.Lines.{peer_event}
 use Rattle.replay_log.proofs.line.word_event.Goals as goal
 

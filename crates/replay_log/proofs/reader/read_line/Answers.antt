@@ -1,4 +1,5 @@
-use Rattle.std.proofs.Common.{rules, ◌≡◌, refl, sym, ap, subst, ◌∙◌, ◌+◌, ◌-◌, ◌<◌, ◌≤◌, List, ℕ, [], drop, take, length, Option, Some, arith}
+use Rattle.std.proofs.Common.{rules, ◌≡◌, refl, sym, ap, subst, ◌∙◌, ◌+◌, ◌-◌, ◌<◌, ◌≤◌, List, ℕ, [], drop, take}
+use Rattle.std.proofs.Common.{length, Option, Some, arith}
 use Rattle.std.proofs.lemmas.Bool.{eqb-false}
 use Rattle.std.proofs.lemmas.List.{nil_from_length, length-take}
 use Rattle.xb_values.specs.Buffers.{Buffer}
@@ -6,7 +7,8 @@ use Rattle.xb_io.specs.Causes.{Files, told_file}
 use Rattle.replay_log.specs.declared.limits.TheConstants.{LOG_LIMIT}
 use Rattle.replay_log.specs.Readings.{AreAhead}
 use Rattle.replay_log.proofs.ReadingLemmas.{left_at, left_at-start, left_at-end, left_at-last, left_at-limit}
-use Rattle.replay_log.proofs.AheadLemmas.{are_ahead-told, are_ahead-skipped, before_end, left_at-too_long, left_at-last_part, left_at-whole_part, part-fits, part-some}
+use Rattle.replay_log.proofs.AheadLemmas.{are_ahead-told, are_ahead-skipped, before_end, left_at-too_long}
+use Rattle.replay_log.proofs.AheadLemmas.{left_at-last_part, left_at-whole_part, part-fits, part-some}
 use Rattle.replay_log.proofs.reader.read_line.Goals as goal
 
 pub parts-init : goal.parts-init

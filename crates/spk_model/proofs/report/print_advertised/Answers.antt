@@ -6,7 +6,8 @@ use Rattle.table_print.specs.Lines.{adv_line}
 use Rattle.spk_model.specs.Routing.{tables_of}
 use Rattle.spk_model.specs.Reports.{adv_line_of, adv_lines_of}
 use Rattle.spk_model.proofs.GatherLemmas.{gathered_line, gathers_no_line}
-use Rattle.spk_model.proofs.PrintLemmas.{fewer_after, lines_after-some, prefix_total, shown_adv}
+use Rattle.xb_values.proofs.PrefixLemmas.{prefix_total}
+use Rattle.spk_model.proofs.PrintLemmas.{fewer_after, lines_after-some, shown_adv}
 use Rattle.spk_model.proofs.report.print_advertised.Goals as goal
 
 pub returns-in_err-adv-clause-lines : goal.returns-in_err-adv-clause-lines

@@ -6,7 +6,8 @@ use Rattle.xb_io.specs.Pages.{Gathered, Stops}
 use Rattle.table_print.specs.Lines.{route_line}
 use Rattle.spk_model.specs.Reports.{route_line_of, route_lines}
 use Rattle.spk_model.proofs.GatherLemmas.{gathered_line, gathers_no_line}
-use Rattle.spk_model.proofs.PrintLemmas.{fewer_after, lines_after-some, prefix_total, shown_route}
+use Rattle.xb_values.proofs.PrefixLemmas.{prefix_total}
+use Rattle.spk_model.proofs.PrintLemmas.{fewer_after, lines_after-some, shown_route}
 use Rattle.spk_model.proofs.report.print_routes.Goals as goal
 
 pub returns-in_err-route : goal.returns-in_err-route

@@ -4,7 +4,8 @@ use Rattle.spk_native.specs.declared.decision.Rank.{Rank}
 use Rattle.spk_native.specs.Decision.{is_better, left_of}
 use Rattle.spk_native.proofs.LeftLemmas.{no_rank, list_any-left_of}
 use Rattle.spk_native.proofs.decision.is_beaten.Goals as goal
-use Rattle.spk_native.proofs.decision.is_beaten.Goals.{else-left-i-via-then-left-i+else-beats, else-left-i-via-else-left-i}
+use Rattle.spk_native.proofs.decision.is_beaten.Goals.{else-left-i-via-then-left-i+else-beats}
+use Rattle.spk_native.proofs.decision.is_beaten.Goals.{else-left-i-via-else-left-i}
 
 pub loop-i-preserved : goal.loop-i-preserved
 loop-i-preserved c =

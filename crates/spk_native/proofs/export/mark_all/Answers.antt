@@ -6,7 +6,8 @@ use Rattle.bgp_attr.specs.Routes.{Route}
 use Rattle.xbgp_view.specs.Views.{Edited, code_from}
 use Rattle.xbgp_view.proofs.ViewsLemmas.{IsNext-code_from}
 use Rattle.spk_native.specs.Marks.{marked_at, marked_below}
-use Rattle.spk_native.proofs.MarksLemmas.{marked_below-zero, marked_below-all, keys_of-marked_below, code_from-marked_below}
+use Rattle.spk_native.proofs.MarksLemmas.{marked_below-zero, marked_below-all, keys_of-marked_below}
+use Rattle.spk_native.proofs.MarksLemmas.{code_from-marked_below}
 use Rattle.spk_native.proofs.MarksLemmas.{marked_at-marked_below}
 use Rattle.spk_native.proofs.export.mark_all.Goals as goal
 

@@ -13,7 +13,8 @@ use Rattle.xbgp_manifest.specs.Outcomes.{manifest_fault}
 use Rattle.xbgp_manifest.specs.Views.{program_view}
 use Rattle.xbgp_manifest.proofs.NameLemmas.{is_there-insert, is_new-insert, list_any-names, map-insert}
 use Rattle.xbgp_manifest.proofs.OutcomeLemmas.{gives_manifest-field_error}
-use Rattle.xbgp_manifest.proofs.ManifestLemmas.{named_program-new, named_program-double, named_program-bad, program_entry-named, program_entry-bad, loaded_program-same}
+use Rattle.xbgp_manifest.proofs.ManifestLemmas.{named_program-new, named_program-double, named_program-bad}
+use Rattle.xbgp_manifest.proofs.ManifestLemmas.{program_entry-named, program_entry-bad, loaded_program-same}
 use Rattle.xbgp_manifest.proofs.programs.read_programs.Goals as goal
 
 pub loop-i-init : goal.loop-i-init

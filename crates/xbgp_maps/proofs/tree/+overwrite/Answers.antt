@@ -1,7 +1,8 @@
 use Rattle.std.proofs.Common.{◌≡◌, length, subst, arith}
 use Rattle.std.proofs.lemmas.Grind.{common_steps}
 use Rattle.xbgp_maps.specs.Trees.{entries_of, entries_below, HaveWidth}
-use Rattle.xbgp_maps.proofs.TreesLemmas.{smaller_left, smaller_right, left_rises, right_rises, value_left, value_right, values_left, values_right, values_here}
+use Rattle.xbgp_maps.proofs.TreesLemmas.{smaller_left, smaller_right, left_rises, right_rises, value_left, value_right}
+use Rattle.xbgp_maps.proofs.TreesLemmas.{values_left, values_right, values_here}
 use Rattle.xbgp_maps.proofs.tree.+overwrite.Goals as goal
 
 pub overwrite-requires : goal.overwrite-requires

@@ -3,7 +3,8 @@ use Rattle.std.proofs.lemmas.List.{take_rest, length-take-le, length-drop, lengt
 use Rattle.xb_values.specs.Buffers.{Buffer}
 use Rattle.bgp_attr.specs.Routes.{canonical, kept_flags, route_of, with_attribute}
 use Rattle.xbgp_view.proofs.CanonicalLemmas.{length-value-canonical}
-use Rattle.xbgp_view.proofs.EditsLemmas.{canon-with_attribute, IsRoute-with_attribute, length-canon-with_attribute, AreOctets-slice, IsCanonical-spelled}
+use Rattle.xbgp_view.proofs.EditsLemmas.{canon-with_attribute, IsRoute-with_attribute, length-canon-with_attribute}
+use Rattle.xbgp_view.proofs.EditsLemmas.{AreOctets-slice, IsCanonical-spelled}
 use Rattle.xbgp_view.proofs.overlay.fill_gap.Goals as goal
 
 pub append_attribute-requires-clause-room : goal.append_attribute-requires-clause-room

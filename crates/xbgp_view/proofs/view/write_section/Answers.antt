@@ -4,7 +4,8 @@ use Rattle.xb_values.specs.Buffers.{Buffer}
 use Rattle.bgp_attr.specs.Routes.{attribute_at, canon}
 use Rattle.xbgp_view.specs.Sections.{entry_octets, below_code}
 use Rattle.xbgp_view.proofs.EditsLemmas.{IsCanonical-spelled}
-use Rattle.xbgp_view.proofs.ViewsLemmas.{below_code-all, canon-below_code-next, IsNext-code_from, length-canon-below_code, below_code-zero}
+use Rattle.xbgp_view.proofs.ViewsLemmas.{below_code-all, canon-below_code-next, IsNext-code_from}
+use Rattle.xbgp_view.proofs.ViewsLemmas.{length-canon-below_code, below_code-zero}
 use Rattle.xbgp_view.proofs.view.write_section.Goals as goal
 
 pub codes-init : goal.codes-init

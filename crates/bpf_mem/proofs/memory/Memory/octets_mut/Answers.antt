@@ -1,5 +1,6 @@
 use Rattle.std.proofs.Common.{refl}
-use Rattle.bpf_mem.proofs.OffsetLemmas.{writable_offset-there, memory_of-lent, writable_at-region_part, length-region_part}
+use Rattle.bpf_mem.proofs.OffsetLemmas.{writable_offset-there, memory_of-lent, writable_at-region_part}
+use Rattle.bpf_mem.proofs.OffsetLemmas.{length-region_part}
 use Rattle.bpf_mem.proofs.memory.Memory.octets_mut.Goals as goal
 
 pub returns : goal.returns

@@ -1,5 +1,6 @@
 -- `range_mut` passes on what `octets_mut` lends if the range may be written, and otherwise lends nothing. This is a proof by hand, statement by statement.
-use Rattle.std.proofs.Common.{◌≡◌, ℕ, ◌<◌, ◌^◌, List, [], ◌∷◌, refl, sym, ap, ◌∙◌, lit<, MutBor, true, false, length, Some, None, is_some, IsSome}
+use Rattle.std.proofs.Common.{◌≡◌, ℕ, ◌<◌, ◌^◌, List, [], ◌∷◌, refl, sym, ap, ◌∙◌, lit<, MutBor, true, false, length}
+use Rattle.std.proofs.Common.{Some, None, is_some, IsSome}
 use Rattle.std.proofs.raw_atomic.Walks.{proved}
 use seplogic.Ra.Ura.{Ura}
 use mathlib.Core.Bool.{Bool, not, true≢false}
@@ -12,7 +13,8 @@ use contract.Lifetimes.{Lfts}
 use contract.Monad.{fact, fact_i}
 use contract.Running.{tables}
 use types.Logic.{Logic, sem}
-use types.Kit.{‵, raw, ◌⊛◌, some, later, at_ret, ◌$◌, ◌∵◌, !, qed, done, move, keep, drop, use0, use1, use2, split, join, fsplit3, fjoin, feq_i, feq_l, fpack, pick, await, rewrite, suffices, frame}
+use types.Kit.{‵, raw, ◌⊛◌, some, later, at_ret, ◌$◌, ◌∵◌, !, qed, done, move, keep, drop, use0, use1, use2, split}
+use types.Kit.{join, fsplit3, fjoin, feq_i, feq_l, fpack, pick, await, rewrite, suffices, frame}
 use types.Match.{live}
 use types.Part.{agg}
 use types.Run.{enter, lit, addr, stop, no_more, and_then, first, branches, skips, exec, returns, returns_within}

@@ -1,5 +1,6 @@
 use Rattle.std.proofs.Common.{◌∙◌, sym}
-use Rattle.xbgp_maps.proofs.JournalsLemmas.{can_take_last, can_take_rest, last_then_rest, no_last, undoable_undone, undone_is, undone_shapes, undone_tables}
+use Rattle.xbgp_maps.proofs.JournalsLemmas.{can_take_last, can_take_rest, last_then_rest, no_last, undoable_undone}
+use Rattle.xbgp_maps.proofs.JournalsLemmas.{undone_is, undone_shapes, undone_tables}
 use Rattle.xbgp_maps.proofs.maps.Maps.undo.Goals as goal
 
 pub take_back-requires : goal.take_back-requires
