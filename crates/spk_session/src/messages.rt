@@ -1,7 +1,7 @@
 // What a message of a live session does, by its type, and what a fault does.
 ghost use Rattle.std.specs.Prelude.{◌≡◌, ◌≤◌, ◌+◌, ◌-◌, [], true, length, slice_set, OnOk, IfSome, List, ℕ};
 ghost use Rattle.std.specs.Option.{option_map};
-ghost use Rattle.xb_wire.specs.declared.numbers.TheConstants.{HEADER, MAX_BODY, MAX_NOTICE_DATA};
+ghost use Rattle.xb_wire.specs.declared.numbers.TheConstants.{HEADER, MAX_BODY, MAX_NOTICE_DATA, MESSAGE_HEADER_ERROR};
 ghost use Rattle.xb_wire.specs.Messages.{message_kind, message_body, notification, HasMessageLength};
 ghost use Rattle.xb_wire.specs.Headers.{notification_of};
 ghost use Rattle.xb_wire.specs.Views.{notice_view};
@@ -80,6 +80,33 @@ fn refuse<R: Routes>(
     react(alloc, links, routes, peer, fault, notice.extra)
 }
 
+// Refuses a header, by the subcode and what is quoted of it.
+fn refuse_for<R: Routes>(
+    alloc: Global,
+    links: &mut Links,
+    routes: &mut R,
+    peer: u32,
+    subcode: u8,
+    extra: &[u8],
+) -> Result<(), AllocError>
+    requires ready { IsReady (core_of (R.built_from routes.old) (R.routing routes.old) links.old) }
+    requires peer { HasPeer links.old peer }
+    requires live { is_live (state_in links.old peer) ≡ true }
+    requires extra { length extra.now ≤ MAX_NOTICE_DATA }
+    ensures does { OnOk result (Does
+        (λ setup t. turning.refuse setup t peer (notification MESSAGE_HEADER_ERROR subcode extra.now))
+        (core_of (R.built_from routes.old) (R.routing routes.old) links.old)
+        (core_of (R.built_from routes.new) (R.routing routes.new) links.new)) }
+    ensures closed { OnOk result (links.new.dropped.items ≡ slice_set links.old.dropped.items (peer - 1) true) }
+{
+    let notice = Notice {
+        code: MESSAGE_HEADER_ERROR,
+        subcode,
+        extra,
+    };
+    refuse(alloc, links, routes, peer, &notice)
+}
+
 /// Refuses a header.
 pub(crate) fn refuse_header<R: Routes>(
     alloc: Global,
@@ -97,54 +124,17 @@ pub(crate) fn refuse_header<R: Routes>(
         (core_of (R.built_from routes.new) (R.routing routes.new) links.new)) }
     ensures closed { OnOk result (links.new.dropped.items ≡ slice_set links.old.dropped.items (peer - 1) true) }
 {
-    let code = MESSAGE_HEADER_ERROR;
     match fault {
         HeaderFault::Marker => {
             let subcode = CONNECTION_NOT_SYNCHRONIZED;
-            let extra = &[];
-            refuse(
-                alloc,
-                links,
-                routes,
-                peer,
-                &Notice {
-                    code,
-                    subcode,
-                    extra,
-                },
-            )
+            refuse_for(alloc, links, routes, peer, subcode, &[])
         }
         HeaderFault::Length(len) => {
-            let subcode = BAD_MESSAGE_LENGTH;
             let field = len.to_be_bytes();
-            let extra = &field;
-            refuse(
-                alloc,
-                links,
-                routes,
-                peer,
-                &Notice {
-                    code,
-                    subcode,
-                    extra,
-                },
-            )
+            refuse_for(alloc, links, routes, peer, BAD_MESSAGE_LENGTH, &field)
         }
         HeaderFault::Kind(kind) => {
-            let subcode = BAD_MESSAGE_TYPE;
-            let field = [kind];
-            let extra = &field;
-            refuse(
-                alloc,
-                links,
-                routes,
-                peer,
-                &Notice {
-                    code,
-                    subcode,
-                    extra,
-                },
-            )
+            refuse_for(alloc, links, routes, peer, BAD_MESSAGE_TYPE, &[kind])
         }
     }
 }
