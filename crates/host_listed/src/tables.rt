@@ -7,13 +7,18 @@ ghost use Rattle.xb_values.specs.Prefixes.{are_prefixes, prefix_cmp, prefixes};
 ghost use Rattle.xb_wire.specs.declared.numbers.TheConstants.{MAX_SECTION};
 ghost use Rattle.spk_model.specs.Routing.{without_all};
 ghost use Rattle.spk_routes.specs.Sound.{IsSound};
+ghost use Rattle.xb_wire.specs.declared.numbers.TheConstants.{MAX_MESSAGE};
+ghost use Rattle.xb_domain.specs.declared.output.Packing.TheVariants.{Sorted};
+ghost use Rattle.bgp_write.specs.Pending.{form, pending};
+ghost use Rattle.host_listed.specs.Telling.{ToldBy};
+ghost use Rattle.std.specs.Prelude.{◌<◌, ◌==◌};
 
 use out_sorted::SortedOut;
 use rib_table::{AttrList, PeerTable};
 use spk_routes::{EachPrefix, PrefixSet};
 use std::alloc::{AllocError, Global};
 use std::marker::Model;
-use xb_values::Prefix;
+use xb_values::{Buf, Prefix};
 use xbgp_view::RouteView;
 
 /// The routes that a peer sent, and what it is advertised and was told.
@@ -134,6 +139,32 @@ impl PeerTables {
         ensures { OnOk result (set.new ≡ with_keys prefix_cmp set.old (keys_of self.now.adv)) }
     {
         add_told(&self.out, set)
+    }
+
+    /// STAND-IN
+    pub(crate) fn next_message(&mut self, out: &mut Buf) -> bool
+        requires { MAX_MESSAGE ≤ out.old.capacity }
+        ensures tells { ToldBy (form Sorted self.old.adv self.old.told) self.old self.new out.old out.new result }
+        ensures less { result ≡ true
+            → length (pending self.new.adv self.new.told) < length (pending self.old.adv self.old.told) }
+    {
+        self.out.next_message(out)
+    }
+
+    /// STAND-IN
+    pub(crate) fn is_told(&self) -> bool
+        ensures { result ≡ (length (pending self.now.adv self.now.told) == 0) }
+    {
+        self.out.is_drained()
+    }
+
+    /// STAND-IN
+    pub(crate) fn adv_after(&self, after: Option<Prefix>) -> Option<(Prefix, &[u8])>
+        ensures entry { option_map (λ e. (e.0, e.1.now)) result ≡ entry_after prefix_cmp self.now.adv after }
+        ensures rising { IsRising prefix_cmp self.now.adv }
+        ensures short { IfSome result (λ e. length e.1.now ≤ MAX_SECTION) }
+    {
+        self.out.adv_after(after)
     }
 }
 
