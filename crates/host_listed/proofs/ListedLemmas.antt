@@ -1,7 +1,8 @@
 -- The routes' half as the sessions' half sees it.
 use Rattle.std.proofs.Common.{◌≡◌, refl, sym, ◌∙◌, ap, subst, ℕ, ◌≤◌, ◌<◌, ◌-◌, List, length, arith, Vec}
 use Rattle.std.proofs.Common.{Bool, true, false, Option, Some, None}
-use Rattle.std.specs.Prelude.{Result, Ok, Err, OnOk, slice_index_or}
+use Rattle.std.specs.Prelude.{Result, Ok, Err, OnOk, is_some, slice_index_or}
+use Rattle.std.specs.Bool.{OnTrue}
 use Rattle.std.specs.List.{slice_set}
 use Rattle.std.specs.declared.alloc.AllocError.{AllocError}
 use Rattle.std.specs.declared.alloc.Global.{Global}
@@ -10,12 +11,13 @@ use Rattle.std.proofs.Math.ListN.{length-set}
 use Rattle.xb_domain.specs.declared.output.Packing.TheVariants.{Sorted}
 use Rattle.xb_values.specs.Buffers.{Buffer}
 use Rattle.bgp_write.specs.Pending.{Formed, form, pending}
+use Rattle.bgp_write.specs.Written.{Replaces}
+use Rattle.out_sorted.specs.Told.{told_after, written_after}
 use Rattle.spk_model.specs.declared.host.Setup.{Setup}
 use Rattle.spk_model.specs.Routing.{Routing, Routed, Tables, no_tables, tables_of, with_tables}
 use Rattle.spk_session.specs.Routed.{waiting, Reroutes, Tells}
 use Rattle.host_listed.specs.declared.routing.Core.{Core}
 use Rattle.host_listed.specs.Meaning.{Does, Goes, IsReady, setup_of, routing_of}
-use Rattle.host_listed.specs.Telling.{ToldBy}
 use Rattle.host_listed.proofs.ExportLemmas.{tables_at}
 
 -- what is seen of a core
@@ -46,15 +48,22 @@ goes_routes (Ok u) step a b v is goes =
     subst (λ (x : Setup × Routing). Reroutes (step x.0) x.1 (routing_of b)) is goes.routing
 goes_routes (Err e) step a b v is goes = tt
 
--- other tables of a peer
+-- the next message of a peer, by the tables that it leaves
 pub tells_tables : (o : Option Formed) (r : Routing) (p : ℕ) (new : Tables) (out written : Buffer) (result : Bool)
-    → ToldBy o (tables_of r p) new out written result → Tells o p r (with_tables r p new) out written result
-tells_tables None r p new out written result told =
-    (told.0,
-    ap (λ (t : Tables). with_tables r p t) told.1
+    → result ≡ is_some o → new ≡ record (tables_of r p) { told = told_after o (tables_of r p).told }
+    → Replaces out written (written_after o out.octets)
+    → Tells o p r (with_tables r p new) out written result
+tells_tables None r p new out written result formed told wrote =
+    (formed,
+    ap (λ (t : Tables). with_tables r p t) told
     ∙ ap (λ (l : List Tables). record r { tables = l }) (set-get_or r.tables (p - 1) no_tables),
-    told.2)
-tells_tables (Some f) r p new out written result told = (told.0, ap (with_tables r p) told.1, told.2)
+    wrote)
+tells_tables (Some f) r p new out written result formed told wrote = (formed, ap (with_tables r p) told, wrote)
+
+-- what is known of true
+pub on_true : {P : Type 0} (b : Bool) → OnTrue b P → b ≡ true → P
+on_true true known is = known
+on_true false known is = absurd (cc is)
 
 -- the tables of a peer change
 abbrev pub told_core : Core → Vec Tables Global → Core
@@ -80,13 +89,18 @@ module _ (a : Core) (p : ℕ) (tables : Tables) (ready : IsReady a) (least : 1 �
 
   -- the next message of a peer
   pub core_tells : (new : Tables) (out written : Buffer) (result : Bool)
-      → ToldBy (form Sorted tables.adv tables.told) tables new out written result
+      → result ≡ is_some (form Sorted tables.adv tables.told)
+      → new ≡ record tables { told = told_after (form Sorted tables.adv tables.told) tables.told }
+      → Replaces out written (written_after (form Sorted tables.adv tables.told) out.octets)
       → Tells (form Sorted (tables_of (routing_of a) p).adv (tables_of (routing_of a) p).told) p
       (routing_of a) (with_tables (routing_of a) p new) out written result
-  core_tells new out written result told =
+  core_tells new out written result formed told wrote =
       tells_tables (form Sorted (tables_of (routing_of a) p).adv (tables_of (routing_of a) p).told) (routing_of a) p
       new out written result
-      (subst (λ (t : Tables). ToldBy (form Sorted t.adv t.told) t new out written result) tables_seen told)
+      (subst (λ (t : Tables). result ≡ is_some (form Sorted t.adv t.told)) tables_seen formed)
+      (subst (λ (t : Tables). new ≡ record t { told = told_after (form Sorted t.adv t.told) t.told }) tables_seen told)
+      (subst (λ (t : Tables). Replaces out written (written_after (form Sorted t.adv t.told) out.octets)) tables_seen
+      wrote)
 
   -- and fewer prefixes wait
   pub core_less : (new : Tables) → length (pending new.adv new.told) < length (pending tables.adv tables.told)
