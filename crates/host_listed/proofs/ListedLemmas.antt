@@ -2,7 +2,6 @@
 use Rattle.std.proofs.Common.{◌≡◌, refl, sym, ◌∙◌, ap, subst, ℕ, ◌≤◌, ◌<◌, ◌-◌, List, length, arith, Vec}
 use Rattle.std.proofs.Common.{Bool, true, false, Option, Some, None}
 use Rattle.std.specs.Prelude.{Result, Ok, Err, OnOk, is_some, slice_index_or}
-use Rattle.std.specs.Bool.{OnTrue}
 use Rattle.std.specs.List.{slice_set}
 use Rattle.std.specs.declared.alloc.AllocError.{AllocError}
 use Rattle.std.specs.declared.alloc.Global.{Global}
@@ -59,11 +58,6 @@ tells_tables None r p new out written result formed told wrote =
     ∙ ap (λ (l : List Tables). record r { tables = l }) (set-get_or r.tables (p - 1) no_tables),
     wrote)
 tells_tables (Some f) r p new out written result formed told wrote = (formed, ap (with_tables r p) told, wrote)
-
--- what is known of true
-pub on_true : {P : Type 0} (b : Bool) → OnTrue b P → b ≡ true → P
-on_true true known is = known
-on_true false known is = absurd (cc is)
 
 -- the tables of a peer change
 abbrev pub told_core : Core → Vec Tables Global → Core

@@ -1,6 +1,7 @@
 use Rattle.std.proofs.Common.{◌-◌, refl}
+use Rattle.std.proofs.lemmas.Bool.{OnTrue_at}
 use Rattle.std.specs.Vec.{with_item}
-use Rattle.host_listed.proofs.ListedLemmas.{ready_told, core_tells, core_less, on_true}
+use Rattle.host_listed.proofs.ListedLemmas.{ready_told, core_tells, core_less}
 use Rattle.host_listed.proofs.routing.Core.next_message.Goals as goal
 
 pub returns-clause-ready : goal.returns-clause-ready
@@ -23,4 +24,4 @@ returns-clause-less c more =
     let a = c.args.self.now in
     let p = c.args.peer in
     core_less a p c.index_mut.result.now c.requires.ready c.requires.least c.requires.most c.index_mut.ensures.value
-    c.next_message.new.self (on_true c.next_message.result c.next_message.ensures.less more)
+    c.next_message.new.self (OnTrue_at more c.next_message.ensures.less)
