@@ -1,7 +1,7 @@
 -- The routes' half as the sessions' half sees it.
 use Rattle.std.proofs.Common.{◌≡◌, refl, sym, ◌∙◌, ap, subst, ℕ, ◌≤◌, ◌<◌, ◌-◌, List, length, arith, Vec}
 use Rattle.std.proofs.Common.{Bool, true, false, Option, Some, None}
-use Rattle.std.specs.Prelude.{Result, Ok, Err, OnOk, is_some, slice_index_or}
+use Rattle.std.specs.Prelude.{Result, Ok, Err, IfSome, OnOk, is_some, slice_index_or}
 use Rattle.std.specs.List.{slice_set}
 use Rattle.std.specs.declared.alloc.AllocError.{AllocError}
 use Rattle.std.specs.declared.alloc.Global.{Global}
@@ -9,10 +9,13 @@ use Rattle.std.proofs.lemmas.List.{set-get_or, get_or-set_same}
 use Rattle.std.proofs.Math.ListN.{length-set}
 use Rattle.xb_domain.specs.declared.output.Packing.TheVariants.{Sorted}
 use Rattle.xb_values.specs.Buffers.{Buffer}
+use Rattle.xb_words.specs.Table.{IsRising}
 use Rattle.bgp_write.specs.Pending.{Formed, form, pending}
 use Rattle.bgp_write.specs.Written.{Replaces}
 use Rattle.out_sorted.specs.Told.{told_after, written_after}
+use Rattle.xbgp_maps.specs.Mappings.{Mapping, IsMapping, key_cmp}
 use Rattle.spk_model.specs.declared.host.Setup.{Setup}
+use Rattle.spk_model.specs.Readers.{entries_in}
 use Rattle.spk_model.specs.Routing.{Routing, Routed, Tables, no_tables, tables_of, with_tables}
 use Rattle.spk_session.specs.Routed.{waiting, Reroutes, Tells}
 use Rattle.host_listed.specs.declared.routing.Core.{Core}
@@ -106,3 +109,8 @@ module _ (a : Core) (p : ℕ) (tables : Tables) (ready : IsReady a) (least : 1 �
       get_or-set_same a.peers.items (p - 1) new no_tables inside in
       subst (λ (t : Tables). length (pending t.adv t.told) < length (waiting (routing_of a) p)) (sym got)
       (subst (λ (t : Tables). length (pending new.adv new.told) < length (pending t.adv t.told)) tables_seen less)
+
+-- the keys of a map rise
+pub rising_in : (o : Option Mapping) → IfSome o IsMapping → IsRising key_cmp (entries_in o)
+rising_in None known = tt
+rising_in (Some m) known = known.rising

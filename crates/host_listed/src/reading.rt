@@ -137,7 +137,9 @@ impl Core {
         ensures section { let found = entry_after prefix_cmp (tables_of (routing_of self.now) peer).adv after in
             section.new ≡ showing section.old (option_map (λ e. e.1) found) }
     {
-        let (prefix, octets) = self.peers[peer as usize - 1].adv_after(after)?;
+        let Some((prefix, octets)) = self.peers[peer as usize - 1].adv_after(after) else {
+            return None;
+        };
         section.replace(octets);
         Some(prefix)
     }
