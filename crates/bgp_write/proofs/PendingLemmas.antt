@@ -71,8 +71,8 @@ has_key-pending adv told p =
     let t = value_at prefix_cmp told p in
     any-filter_same at (differs adv told) (differs adv told p)
     (λ k same. ap (differs adv told) (sym (prefix_exact p k (equal_from _ same)))) (set_of prefix_cmp keys)
-    ∙ ap (λ b. differs adv told p && b) (has_key-with_keys prefix_cmp prefix_total keys [] p ∙ or_none (list_any at keys)
-    ∙ list_any-append at (keys_of adv) (keys_of told)
+    ∙ ap (λ b. differs adv told p && b) (has_key-with_keys prefix_cmp prefix_total keys [] p
+    ∙ or_none (list_any at keys) ∙ list_any-append at (keys_of adv) (keys_of told)
     ∙ ap (λ b. b || list_any at (keys_of told)) (sym (is_some-lookup at adv))
     ∙ ap (λ b. is_some a || b) (sym (is_some-lookup at told)))
     ∙ sym (some_differs a t)
@@ -330,7 +330,8 @@ length-pending-formed rule adv told f rising short formed =
         let same : announcement told s (together rule adv s (x ∷ ps)) ≡ f = cc is in
         let left = ap (filter (λ p. is_none (value_at prefix_cmp adv p))) (sym all) ∙ none in
         subst (λ (g : Formed). length (pending adv g.told) < length (pending adv told)) same
-        (length-announcement rule adv told x ps rising short all (elim (cases_Bool (is_none (value_at prefix_cmp adv x))) [
+        (length-announcement rule adv told x ps rising short all
+        (elim (cases_Bool (is_none (value_at prefix_cmp adv x))) [
           | inl gone ↦ absurd (cc (rw gone at left))
           | inr here ↦ here
         ]))
