@@ -31,12 +31,7 @@ use Rattle.xb_domain.specs.declared.output.Packing.TheVariants.{Grouped, Sorted}
 use Rattle.xb_wire.specs.declared.numbers.TheConstants.{EMPTY_UPDATE, MAX_MESSAGE, MAX_SECTION}
 use Rattle.bgp_write.specs.Pending.{Formed, form, pending, same_section, section_of, has_section, fitting, together}
 use Rattle.bgp_write.specs.Pending.{withdrawn_first, announcement, withdrawal}
-use Rattle.bgp_write.proofs.SetLemmas.{has_key-with_keys, IsStrictlySortedBy-with_keys, length-more}
-
-by_ordering : {P : Type 0} (r : Ordering) → (r ≡ Less → P) → (r ≡ Equal → P) → (r ≡ Greater → P) → P
-by_ordering Less l e g = l refl
-by_ordering Equal l e g = e refl
-by_ordering Greater l e g = g refl
+use Rattle.bgp_write.proofs.SetLemmas.{by_ordering, has_key-with_keys, IsStrictlySortedBy-with_keys, length-more}
 
 equal_from : (r : Ordering) → is_eq r ≡ true → r ≡ Equal
 equal_from Less same = absurd (cc same)

@@ -15,7 +15,8 @@ use Rattle.std.proofs.lemmas.Map.Steps.{list_any_congr}
 use Rattle.xb_words.specs.Table.{has_key, with_key, with_keys}
 use Rattle.xb_words.proofs.TableSplitLemmas.{less_from_greater}
 
-by_ordering : {P : Type 0} (r : Ordering) → (r ≡ Less → P) → (r ≡ Equal → P) → (r ≡ Greater → P) → P
+-- an ordering is one of three
+pub by_ordering : {P : Type 0} (r : Ordering) → (r ≡ Less → P) → (r ≡ Equal → P) → (r ≡ Greater → P) → P
 by_ordering Less l e g = l refl
 by_ordering Equal l e g = e refl
 by_ordering Greater l e g = g refl
