@@ -56,11 +56,12 @@ pub tells_tables : (o : Option Formed) (r : Routing) (p : ℕ) (new : Tables) (o
     → result ≡ is_some o → new ≡ record (tables_of r p) { told = told_after o (tables_of r p).told }
     → Replaces out written (written_after o out.octets)
     → Tells o p r (with_tables r p new) out written result
-tells_tables None r p new out written result formed told wrote =
-    (formed,
-    ap (λ (t : Tables). with_tables r p t) told
-    ∙ ap (λ (l : List Tables). record r { tables = l }) (set-get_or r.tables (p - 1) no_tables),
-    wrote)
+tells_tables None r p new out written result formed told wrote = (
+  formed,
+  ap (λ (t : Tables). with_tables r p t) told
+      ∙ ap (λ (l : List Tables). record r { tables = l }) (set-get_or r.tables (p - 1) no_tables),
+  wrote,
+)
 tells_tables (Some f) r p new out written result formed told wrote = (formed, ap (with_tables r p) told, wrote)
 
 -- the tables of a peer change
