@@ -15,8 +15,10 @@ invariant_of-self c = goes_ready c.export_all.result _ c.self.inside.core c.expo
 
 pub returns-clause-setup : goal.returns-clause-setup
 returns-clause-setup c =
-    goes_setup c.export_all.result _ c.self.inside.core c.export_all.new.self c.args.self.now c.self.view_is c.export_all.ensures
+    goes_setup c.export_all.result _ c.self.inside.core c.export_all.new.self c.args.self.now c.self.view_is
+    c.export_all.ensures
 
 pub returns-clause-routes : goal.returns-clause-routes
 returns-clause-routes c =
-    goes_routes c.export_all.result _ c.self.inside.core c.export_all.new.self c.args.self.now c.self.view_is c.export_all.ensures
+    goes_routes c.export_all.result _ c.self.inside.core c.export_all.new.self c.args.self.now c.self.view_is
+    c.export_all.ensures
