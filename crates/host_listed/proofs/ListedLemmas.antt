@@ -1,6 +1,6 @@
 -- The routes' half as the sessions' half sees it.
-use Rattle.std.proofs.Common.{◌≡◌, refl, sym, ◌∙◌, ap, subst, ℕ, ◌≤◌, ◌<◌, ◌-◌, List, length, arith, Vec}
-use Rattle.std.proofs.Common.{Bool, true, false, Option, Some, None}
+use Rattle.std.proofs.Common.{◌≡◌, sym, ◌∙◌, ap, subst, ℕ, ◌≤◌, ◌<◌, ◌-◌, List, length, arith, Vec}
+use Rattle.std.proofs.Common.{Bool, Option, Some, None}
 use Rattle.std.specs.Prelude.{Result, Ok, Err, IfSome, OnOk, is_some, slice_index_or}
 use Rattle.std.specs.List.{slice_set}
 use Rattle.std.specs.List.Sorted.{IsStrictlySortedBy}
@@ -20,7 +20,7 @@ use Rattle.spk_model.specs.Readers.{entries_in}
 use Rattle.spk_model.specs.Routing.{Routing, Routed, Tables, no_tables, tables_of, with_tables}
 use Rattle.spk_session.specs.Routed.{waiting, Reroutes, Tells}
 use Rattle.host_listed.specs.declared.routing.Core.{Core}
-use Rattle.host_listed.specs.Meaning.{Does, Goes, IsReady, setup_of, routing_of}
+use Rattle.host_listed.specs.Meaning.{Goes, IsReady, setup_of, routing_of}
 use Rattle.host_listed.proofs.ExportLemmas.{tables_at}
 
 -- what is seen of a core

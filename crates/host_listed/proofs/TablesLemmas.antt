@@ -1,5 +1,5 @@
 -- Tables whose routes are sound, and whether anything waits in them.
-use Rattle.std.proofs.Common.{◌≡◌, ◌↔◌, ◌==◌, refl, sym, ◌∙◌, ap, subst, ℕ, Bool, true, false, List, [], ◌∷◌, length}
+use Rattle.std.proofs.Common.{◌≡◌, ◌↔◌, ◌==◌, refl, sym, ap, subst, Bool, true, false, List, [], ◌∷◌, length}
 use Rattle.std.proofs.Common.{Option, Some, None, Bor, IsTrue}
 use Rattle.std.specs.Prelude.{Result, Ok, Err, IfSome, OnOk, OnErr}
 use Rattle.std.specs.Option.{option_map}
