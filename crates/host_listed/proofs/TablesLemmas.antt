@@ -1,9 +1,11 @@
--- Tables whose routes are sound.
-use Rattle.std.proofs.Common.{◌≡◌, refl, sym, ◌∙◌, ap, subst, ℕ, List, Option, Some, None, Bor}
+-- Tables whose routes are sound, and whether anything waits in them.
+use Rattle.std.proofs.Common.{◌≡◌, ◌↔◌, ◌==◌, refl, sym, ap, subst, Bool, true, false, List, [], ◌∷◌, length}
+use Rattle.std.proofs.Common.{Option, Some, None, Bor, IsTrue}
 use Rattle.std.specs.Prelude.{Result, Ok, Err, IfSome, OnOk, OnErr}
 use Rattle.std.specs.Option.{option_map}
 use Rattle.std.specs.List.{AllByRecursion}
 use Rattle.std.specs.declared.alloc.AllocError.{AllocError}
+use Rattle.std.proofs.Math.Dec.{eqb-suc-zero}
 use Rattle.xb_words.specs.Table.{value_at, with_value, without}
 use Rattle.xb_words.proofs.TableLemmas.{AllByRecursion-with_value, AllByRecursion-without, value_at-some}
 use Rattle.xb_values.specs.Prefixes.{Prefix, prefix_cmp}
@@ -34,3 +36,9 @@ pub sound_removed : (old new : Routes) (prefix : Prefix) → AreSound old → ne
     → AreSound new
 sound_removed old new prefix all is =
     subst AreSound (sym is) (AllByRecursion-without prefix_cmp (λ e. IsSound e.1) old prefix all)
+
+-- nothing waits exactly if no prefix does
+pub none_waits : (b : Bool) (ps : List Prefix) → IsTrue b ↔ (ps ≡ []) → b ≡ (length ps == 0)
+none_waits true ps both = ap (λ (l : List Prefix). length l == 0) (sym (both.0 refl))
+none_waits false [] both = absurd (cc (both.1 refl))
+none_waits false (p ∷ ps) both = sym (eqb-suc-zero (length ps))

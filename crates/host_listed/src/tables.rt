@@ -1,10 +1,16 @@
 // What is kept of a peer.
-ghost use Rattle.std.specs.Prelude.{◌≡◌, ◌≤◌, [], length, filter, not, true, IfOk, IfSome, OnOk, OnErr};
+ghost use Rattle.std.specs.Prelude.{◌≡◌, ◌<◌, ◌≤◌, ◌==◌, ◌↔◌, [], length, filter, not, true, is_some, IsFalse};
+ghost use Rattle.std.specs.Prelude.{IfOk, IfSome, OnOk, OnErr};
+ghost use Rattle.std.specs.Bool.{OnTrue};
 ghost use Rattle.std.specs.Map.{keys_of};
 ghost use Rattle.std.specs.Option.{option_map};
 ghost use Rattle.xb_words.specs.Table.{entry_after, has_key, value_at, with_keys, with_value, without, IsRising};
 ghost use Rattle.xb_values.specs.Prefixes.{are_prefixes, prefix_cmp, prefixes};
-ghost use Rattle.xb_wire.specs.declared.numbers.TheConstants.{MAX_SECTION};
+ghost use Rattle.xb_domain.specs.declared.output.Packing.TheVariants.{Sorted};
+ghost use Rattle.xb_wire.specs.declared.numbers.TheConstants.{MAX_MESSAGE, MAX_SECTION};
+ghost use Rattle.bgp_write.specs.Pending.{form, pending};
+ghost use Rattle.bgp_write.specs.Written.{Replaces};
+ghost use Rattle.out_sorted.specs.Told.{told_after, written_after};
 ghost use Rattle.spk_model.specs.Routing.{without_all};
 ghost use Rattle.spk_routes.specs.Sound.{IsSound};
 
@@ -13,7 +19,7 @@ use rib_table::{AttrList, PeerTable};
 use spk_routes::{EachPrefix, PrefixSet};
 use std::alloc::{AllocError, Global};
 use std::marker::Model;
-use xb_values::Prefix;
+use xb_values::{Buf, Prefix};
 use xbgp_view::RouteView;
 
 /// The routes that a peer sent, and what it is advertised and was told.
@@ -120,6 +126,39 @@ impl PeerTables {
         ensures { self.new ≡ record self.old { adv = without prefix_cmp self.old.adv prefix } }
     {
         self.out.unset(prefix);
+    }
+
+    /// Replaces the content of `out` by the next UPDATE to the peer, which is then told what it says. False, with `out`
+    /// unchanged, if the peer was told all that it is advertised and nothing else.
+    pub(crate) fn next_message(&mut self, out: &mut Buf) -> bool
+        requires { MAX_MESSAGE ≤ out.old.capacity }
+        ensures formed { result ≡ is_some (form Sorted self.old.adv self.old.told) }
+        ensures none { IsFalse result ↔ (pending self.old.adv self.old.told ≡ []) }
+        ensures told { self.new
+            ≡ record self.old { told = told_after (form Sorted self.old.adv self.old.told) self.old.told } }
+        ensures written { Replaces out.old out.new
+            (written_after (form Sorted self.old.adv self.old.told) out.old.octets) }
+        ensures less { OnTrue result
+            (length (pending self.new.adv self.new.told) < length (pending self.old.adv self.old.told)) }
+    {
+        self.out.next_message(out)
+    }
+
+    /// Whether the peer was told all that it is advertised and nothing else.
+    pub(crate) fn is_told(&self) -> bool
+        ensures { result ≡ (length (pending self.now.adv self.now.told) == 0) }
+    {
+        self.out.is_drained()
+    }
+
+    /// The first prefix that is advertised to the peer after the one given, or the first of all if none is given, with
+    /// its section. None after the last.
+    pub(crate) fn adv_after(&self, after: Option<Prefix>) -> Option<(Prefix, &[u8])>
+        ensures entry { option_map (λ e. (e.0, e.1.now)) result ≡ entry_after prefix_cmp self.now.adv after }
+        ensures rising { IsRising prefix_cmp self.now.adv }
+        ensures short { IfSome result (λ e. length e.1.now ≤ MAX_SECTION) }
+    {
+        self.out.adv_after(after)
     }
 
     /// Adds the prefixes that the peer sent to a set. The error is want of memory; then some may have been added.

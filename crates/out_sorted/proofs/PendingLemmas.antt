@@ -18,6 +18,7 @@ use Rattle.xb_wire.specs.Messages.{update_message}
 use Rattle.xb_wire.specs.declared.numbers.TheConstants.{EMPTY_UPDATE, MAX_MESSAGE}
 use Rattle.bgp_write.specs.Pending.{Formed, form, pending, same_section, announced, announcement, withdrawal}
 use Rattle.bgp_write.specs.Pending.{withdrawn_first, section_of, fitting, has_section}
+use Rattle.bgp_write.proofs.PendingLemmas.{differs}
 use Rattle.out_sorted.specs.Spans.{Span}
 use Rattle.out_sorted.specs.Slots.{Slot, Slots, IsSlot, IsSound, adv_in, told_in, with_front, keys_where, is_gone}
 use Rattle.out_sorted.specs.Slots.{is_fresh}
@@ -100,19 +101,16 @@ found (e ∷ es) rising = (
 abbrev waits : Slot → Bool
 waits s = not (same_section s.adv s.told)
 
-abbrev at : Slots → Prefix → Bool
-at es p = not (same_section (value_at prefix_cmp (adv_in es) p) (value_at prefix_cmp (told_in es) p))
-
 filter-keys : (es fs : Slots) → IsRising prefix_cmp es
     → AllByRecursion (λ f. value_at prefix_cmp es f.0 ≡ Some f.1) fs
-    → filter (at es) (keys_of fs) ≡ keys_where waits fs
+    → filter (differs (adv_in es) (told_in es)) (keys_of fs) ≡ keys_where waits fs
 filter-keys es [] rising all = refl
 filter-keys es (f ∷ fs) rising all =
     let adv : value_at prefix_cmp (adv_in es) f.0 ≡ f.1.adv =
     value_at-part (λ s. s.adv) es f.0 rising ∙ ap (option_and_then (λ (s : Slot). s.adv)) all.0 in
     let told : value_at prefix_cmp (told_in es) f.0 ≡ f.1.told =
     value_at-part (λ s. s.told) es f.0 rising ∙ ap (option_and_then (λ (s : Slot). s.told)) all.0 in
-    let same : at es f.0 ≡ waits f.1 = ap (λ o. not (same_section o (value_at prefix_cmp (told_in es) f.0))) adv
+    let same : differs (adv_in es) (told_in es) f.0 ≡ waits f.1 = ap (λ o. not (same_section o (value_at prefix_cmp (told_in es) f.0))) adv
     ∙ ap (λ o. not (same_section f.1.adv o)) told in
     elim (cases_Bool (waits f.1)) [
       | inl wait ↦ rw (same, wait) (ap (λ (l : List Prefix). f.0 ∷ l) (filter-keys es fs rising all.1))
@@ -128,7 +126,7 @@ pending-slots es sound =
     ∙ ap (λ (l : List Prefix). with_keys prefix_cmp l (keys_of (told_in es)))
     (set_of-keys (adv_in es) (IsRising-part (λ s. s.adv) es sound.rising))
     ∙ merged es sound.rising sound.slots in
-    ap (filter (at es)) keys ∙ filter-keys es es sound.rising (found es sound.rising)
+    ap (filter (differs (adv_in es) (told_in es))) keys ∙ filter-keys es es sound.rising (found es sound.rising)
 
 gone_waits : (e : Prefix × Slot) → IsSlot e → is_gone e.1 ≡ true → waits e.1 ≡ true
 gone_waits e is gone = go e.1.adv e.1.told is.some gone

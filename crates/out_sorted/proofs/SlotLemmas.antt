@@ -7,8 +7,7 @@ use Rattle.std.specs.BTreeMap.Range.{entries_between}
 use Rattle.std.specs.Map.{set_value}
 use Rattle.std.specs.Map.Iter.{deref_pair}
 use Rattle.std.specs.Option.{option_map, option_and_then}
-use Rattle.std.specs.Ordering.{nat_cmp, is_lt, is_le, is_eq}
-use Rattle.std.specs.declared.cmp.Ordering.{Ordering}
+use Rattle.std.specs.Ordering.{is_lt, is_le, is_eq}
 use Rattle.std.specs.declared.cmp.Ordering.TheVariants.{Less, Equal, Greater}
 use Rattle.std.specs.declared.ops.Bound.TheVariants.{Included, Excluded, Unbounded}
 use Rattle.std.proofs.lemmas.Bool.{cases_Bool, and_parts, and_from}
@@ -20,14 +19,9 @@ use Rattle.xb_words.proofs.TableSplitLemmas.{value_at-above}
 use Rattle.xb_values.specs.Prefixes.{Prefix, Sections, prefix_cmp}
 use Rattle.xb_values.proofs.PrefixLemmas.{prefix_total, prefix_exact}
 use Rattle.bgp_write.specs.Pending.{section_of}
+use Rattle.bgp_write.proofs.SetLemmas.{by_ordering}
 use Rattle.out_sorted.specs.Spans.{Span, is_within}
 use Rattle.out_sorted.specs.Slots.{Slot, Slots, adv_in, part, with_front, without_adv, keys_where, AllInSpan}
-
--- an ordering is one of three
-by_ordering : {P : Type 0} (r : Ordering) → (r ≡ Less → P) → (r ≡ Equal → P) → (r ≡ Greater → P) → P
-by_ordering Less l e g = l refl
-by_ordering Equal l e g = e refl
-by_ordering Greater l e g = g refl
 
 -- every key is after a prefix
 abbrev pub Above : {X : Type 0} → Prefix → List (Prefix × X) → Type 0

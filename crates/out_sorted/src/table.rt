@@ -1,5 +1,6 @@
 // The advertised and told sections of a peer.
-ghost use Rattle.std.specs.Prelude.{◌≡◌, ◌≤◌, ◌↔◌, [], length, is_some, IfOk, OnOk, OnErr, IsTrue, IsFalse};
+ghost use Rattle.std.specs.Prelude.{◌≡◌, ◌<◌, ◌≤◌, ◌↔◌, [], length, is_some, IfOk, IfSome, OnOk, OnErr};
+ghost use Rattle.std.specs.Prelude.{IsTrue, IsFalse};
 ghost use Rattle.std.specs.Bool.{OnTrue};
 ghost use Rattle.std.specs.Option.{option_map};
 ghost use Rattle.xb_words.specs.Table.{entry_after, with_value, without, IsRising};
@@ -95,6 +96,8 @@ impl SortedOut {
             ≡ record self.old { told = told_after (form Sorted self.old.adv self.old.told) self.old.told } }
         ensures written { Replaces out.old out.new
             (written_after (form Sorted self.old.adv self.old.told) out.old.octets) }
+        ensures less { OnTrue result
+            (length (pending self.new.adv self.new.told) < length (pending self.old.adv self.old.told)) }
         ensures message { OnTrue result (IsMessage out.new.octets) }
     {
         self.gone = first_gone(&self.entries, self.gone);
@@ -115,6 +118,7 @@ impl SortedOut {
     pub fn adv_after(&self, after: Option<Prefix>) -> Option<(Prefix, &[u8])>
         ensures entry { option_map (λ e. (e.0, e.1.now)) result ≡ entry_after prefix_cmp self.now.adv after }
         ensures rising { IsRising prefix_cmp self.now.adv }
+        ensures short { IfSome result (λ e. length e.1.now ≤ MAX_SECTION) }
     {
         match after {
             None => first_of(&self.entries),

@@ -13,6 +13,7 @@ use Rattle.std.proofs.lemmas.Cmp.{eq_by_cmp_equiv}
 use Rattle.xb_words.specs.Table.{has_key, with_key, with_keys, set_of}
 use Rattle.xb_values.specs.Prefixes.{Prefix, prefix_cmp}
 use Rattle.xb_values.proofs.PrefixLemmas.{prefix_total}
+use Rattle.bgp_write.proofs.SetLemmas.{has_key-with_keys}
 use Rattle.xbgp_config.specs.Configs.{same_prefix}
 use Rattle.xbgp_view.proofs.LowerLemmas.{eq-nat_cmp, nat_cmp-equal}
 
@@ -23,51 +24,9 @@ insert_key-with_key cmp [] k = refl
 insert_key-with_key cmp (x ∷ xs) k =
     ap (λ r. match_ordering (cmp k x) (k ∷ x ∷ xs) (x ∷ xs) (x ∷ r)) (insert_key-with_key cmp xs k)
 
-by_ordering : {P : Type 0} (r : Ordering) → (r ≡ Less → P) → (r ≡ Equal → P) → (r ≡ Greater → P) → P
-by_ordering Less l e g = l refl
-by_ordering Equal l e g = e refl
-by_ordering Greater l e g = g refl
-
-or_same : (a b : Bool) → (a || b) ≡ (a || (a || b))
-or_same true b = refl
-or_same false b = refl
-
-or_swap : (a b r : Bool) → (a || (b || r)) ≡ (b || (a || r))
-or_swap true true r = refl
-or_swap true false r = refl
-or_swap false true r = refl
-or_swap false false r = refl
-
-or_assoc : (a b r : Bool) → ((a || b) || r) ≡ (a || (b || r))
-or_assoc true b r = refl
-or_assoc false b r = refl
-
 or_none : (a : Bool) → (a || false) ≡ a
 or_none true = refl
 or_none false = refl
-
-module _ {K : Type 0} (c : K → K → Ordering) (o : IsTotalOrder c) where
-  -- one key more
-  has_key-with_key : (ks : List K) (k q : K) → has_key c (with_key c ks k) q ≡ (is_at (c q) k || has_key c ks q)
-  has_key-with_key [] k q = refl
-  has_key-with_key (x ∷ xs) k q = by_ordering (c k x)
-      (λ l. rw l refl)
-      (λ e.
-      let eq = eq_by_cmp_equiv o in
-      let same : is_at (c q) k ≡ is_at (c q) x = eq.symm q k ∙ eq.congr k x q (ap is_eq e) ∙ eq.symm x q in
-      rw (e, same) (or_same (is_at (c q) x) (has_key c xs q)))
-      (λ g. rw g (ap (λ b. is_at (c q) x || b) (has_key-with_key xs k q)
-      ∙ or_swap (is_at (c q) x) (is_at (c q) k) (has_key c xs q)))
-
-  -- keys more
-  has_key-with_keys : (ks set : List K) (q : K)
-      → has_key c (with_keys c set ks) q ≡ (list_any (is_at (c q)) ks || has_key c set q)
-  has_key-with_keys [] set q = refl
-  has_key-with_keys (k ∷ ks) set q =
-      has_key-with_keys ks (with_key c set k) q
-      ∙ ap (λ b. list_any (is_at (c q)) ks || b) (has_key-with_key set k q)
-      ∙ or_swap (list_any (is_at (c q)) ks) (is_at (c q) k) (has_key c set q)
-      ∙ sym (or_assoc (is_at (c q) k) (list_any (is_at (c q)) ks) (has_key c set q))
 
 not_equal : (r : Ordering) → (r ≡ Equal → ⊥) → is_eq r ≡ false
 not_equal Less other = refl

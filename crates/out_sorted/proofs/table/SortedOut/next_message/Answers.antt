@@ -6,7 +6,8 @@ use Rattle.out_sorted.specs.Spans.{Span}
 use Rattle.out_sorted.specs.Slots.{adv_in, told_in}
 use Rattle.out_sorted.specs.Sending.{announcement_from, withdrawal_from}
 use Rattle.out_sorted.proofs.PendingLemmas.{form-gone, form-fresh, form-none}
-use Rattle.out_sorted.proofs.NextLemmas.{form-seen, pending-formed, pending-drained, told_of-formed}
+use Rattle.out_sorted.proofs.NextLemmas.{fewer-pending, form-seen, pending-formed, pending-drained}
+use Rattle.out_sorted.proofs.NextLemmas.{told_of-formed}
 use Rattle.out_sorted.proofs.table.SortedOut.next_message.Goals as goal
 
 pub invariant_of-self : goal.invariant_of-self
@@ -30,6 +31,8 @@ returns-in-Some c =
           (w.ensures.keeps.adv ∙ ap (λ (u : Told). u.adv) c.self.view_is) w.ensures.told refl formed;
       written = subst (λ o. Replaces c.args.out.now w.new.out (written_after o c.args.out.now.octets)) (sym formed)
           w.ensures.written;
+      less = fewer-pending es w.new.entries.entries t f c.self.invariant.sound c.self.view_is formed
+          (w.ensures.keeps.adv ∙ ap (λ (u : Told). u.adv) c.self.view_is) w.ensures.told;
       message = w.ensures.message;
     }
 
@@ -48,6 +51,7 @@ returns-in_default-fresh c =
           (ap (λ (u : Told). u.told) c.self.view_is) formed;
       written = subst (λ o. Replaces c.args.out.now c.args.out.now (written_after o c.args.out.now.octets)) (sym formed)
           refl;
+      less = tt;
       message = tt;
     }
 
@@ -78,5 +82,7 @@ returns c =
           (w.ensures.keeps.adv ∙ ap (λ (u : Told). u.adv) c.self.view_is) w.ensures.told refl formed;
       written = subst (λ o. Replaces c.args.out.now w.new.out (written_after o c.args.out.now.octets)) (sym formed)
           w.ensures.written;
+      less = fewer-pending es w.new.entries.entries t f c.self.invariant.sound c.self.view_is formed
+          (w.ensures.keeps.adv ∙ ap (λ (u : Told). u.adv) c.self.view_is) w.ensures.told;
       message = w.ensures.message;
     }
