@@ -1,9 +1,20 @@
 //! Laws over all lists of events, each the contract of a function without parameters.
-ghost use Rattle.spk_model.specs.Laws.{cutting, damage, own_event};
+ghost use Rattle.spk_model.specs.Laws.{cutting, damage, heard_is_told, own_event, told_is_advertised};
 
 /// Octets that come from a peer in two pieces give what they give in one: the same outputs, and the same speaker.
 pub fn cutting()
     ensures { cutting }
+{}
+
+/// What an Established peer hears of all that was sent to it since its link came up, followed by what is left of a
+/// message, is what it was told.
+pub fn heard_is_told()
+    ensures { heard_is_told }
+{}
+
+/// If no prefix is pending for a peer, what it was told is what it is advertised.
+pub fn told_is_advertised()
+    ensures { told_is_advertised }
 {}
 
 /// A message that is refused does what the loss of the link would do at its first octet, and sends a NOTIFICATION
