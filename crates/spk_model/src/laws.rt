@@ -1,5 +1,6 @@
 //! Laws over all lists of events, each the contract of a function without parameters.
-ghost use Rattle.spk_model.specs.Laws.{cutting, damage, heard_is_told, own_event, told_is_advertised};
+ghost use Rattle.spk_model.specs.Laws.{cutting, damage, encode_again, heard_is_told, own_event, rule_free};
+ghost use Rattle.spk_model.specs.Laws.{told_is_advertised};
 
 /// Octets that come from a peer in two pieces give what they give in one: the same outputs, and the same speaker.
 pub fn cutting()
@@ -17,6 +18,12 @@ pub fn told_is_advertised()
     ensures { told_is_advertised }
 {}
 
+/// How prefixes are packed into messages changes what peers are told, what is left of messages, and what is sent, and
+/// nothing else.
+pub fn rule_free()
+    ensures { rule_free }
+{}
+
 /// A message that is refused does what the loss of the link would do at its first octet, and sends a NOTIFICATION
 /// before: both give the same speaker.
 pub fn damage()
@@ -26,4 +33,9 @@ pub fn damage()
 /// An event of a peer sends nothing to another peer, and leaves all of it but what it is advertised.
 pub fn own_event()
     ensures { own_event }
+{}
+
+/// An export that is encoded again, with the same maps and all faults noted, gives the same section and changes nothing.
+pub fn encode_again()
+    ensures { encode_again }
 {}
