@@ -173,7 +173,7 @@ tells-update bytes table gone fresh section are_gone are_fresh short t =
 -- ---- the next message
 
 -- prefixes of a list that pass a test
-all-filter : {A : Type 0} (P : A → Type 0) (test : A → Bool) (xs : List A) → AllByRecursion P xs
+pub all-filter : {A : Type 0} (P : A → Type 0) (test : A → Bool) (xs : List A) → AllByRecursion P xs
     → AllByRecursion P (filter test xs)
 all-filter P test [] all = tt
 all-filter P test (x ∷ xs) all =
