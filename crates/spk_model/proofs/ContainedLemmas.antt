@@ -603,3 +603,424 @@ module _ (points : List Point) (setup : Setup) (loaded : IsManifest setup.manife
         then-still t v (λ faults runs. set_tables (swap faults runs t) p no_tables)
         (λ w. settle_all setup sessions w ps) (λ w. settle_all other sessions w ps)
         (plain-still t v (λ faults runs. swap faults runs v) refl refl (λ faults runs. refl)) (settle_all-still ps v)
+
+  -- ---- steps of a turn
+
+  record AreRelated (t u : Turn) : Type 0 where
+    pub faults : Faults
+    pub runs : Trace
+    pub is : u ≡ swap_turn faults runs t
+    pub good : Good (faults_of_turn t) faults
+
+  -- what became of a turn, and of the same with other faults
+  record Goes (t after : Turn) (later : Faults → Trace → Turn) : Type 0 where
+    pub grows : AreFine after.trace → AreFine t.trace
+    pub goes :
+        (faults : Faults) (runs : Trace) → Good (faults_of_turn t) faults → AreFine after.trace
+        → AreRelated after (later faults runs)
+
+  abbrev Go : (Turn → Turn) → (Turn → Turn) → Type 0
+  Go f g = (t : Turn) → Goes t (f t) (λ faults runs. g (swap_turn faults runs t))
+
+  plain-goes : (t after : Turn) (later : Faults → Trace → Turn) → after.trace ≡ t.trace
+      → faults_of_turn after ≡ faults_of_turn t
+      → ((faults : Faults) (runs : Trace) → later faults runs ≡ swap_turn faults runs after) → Goes t after later
+  plain-goes t after later trace_is faults_are moves = record {
+    grows = λ fine. subst (λ (r : Trace). AreFine r) trace_is fine;
+    goes = λ faults runs good fine. record {
+      faults = faults;
+      runs = runs;
+      is = moves faults runs;
+      good = subst (λ (fs : Faults). Good fs faults) (sym faults_are) good;
+    };
+  }
+
+  stays-goes : Go (λ t. t) (λ t. t)
+  stays-goes t = plain-goes t t (λ faults runs. swap_turn faults runs t) refl refl (λ faults runs. refl)
+
+  then-goes : (t v : Turn) (u : Faults → Trace → Turn) (g h : Turn → Turn) → Goes t v u
+      → Goes v (g v) (λ faults runs. h (swap_turn faults runs v)) → Goes t (g v) (λ faults runs. h (u faults runs))
+  then-goes t v u g h first next = record {
+    grows = λ fine. first.grows (next.grows fine);
+    goes = λ faults runs good fine.
+        let r = first.goes faults runs good (next.grows fine) in
+        let s = next.goes r.faults r.runs r.good fine in
+        record { faults = s.faults; runs = s.runs; is = ap h r.is ∙ s.is; good = s.good };
+  }
+
+  fold-goes : {A : Type 0} (f g : Turn → A → Turn) → ((a : A) → Go (λ t. f t a) (λ t. g t a)) → (xs : List A)
+      → Go (λ t. fold f t xs) (λ t. fold g t xs)
+  fold-goes f g each [] t = stays-goes t
+  fold-goes f g each (x ∷ xs) t =
+      then-goes t (f t x) (λ faults runs. g (swap_turn faults runs t) x) (λ u. fold f u xs) (λ u. fold g u xs)
+      (each x t) (fold-goes f g each xs (f t x))
+
+  if-goes : (b : Bool) (t v w : Turn) (u x : Faults → Trace → Turn) → Goes t v u → Goes t w x
+      → Goes t (if b then v else w) (λ faults runs. if b then u faults runs else x faults runs)
+  if-goes true t v w u x first second = first
+  if-goes false t v w u x first second = second
+
+  -- outputs, and then a step of the routes
+  routes-goes : (t : Turn) (more : List Output) (r : Routed) (u : Faults → Trace → Routed) → Still (routed t) r u
+      → Goes t (with_routes (gives t more) r)
+      (λ faults runs. with_routes (gives (swap_turn faults runs t) more) (u faults runs))
+  routes-goes t more r u s = record {
+    grows = s.grows;
+    goes = λ faults runs good fine.
+        let x = s.still faults runs good fine in
+        record {
+          faults = x.faults;
+          runs = x.runs;
+          is = ap (with_routes (gives (swap_turn faults runs t) more)) x.is;
+          good = x.good;
+        };
+  }
+
+  -- a step of the routes alone
+  steps-goes : (t : Turn) (r : Routed) (u : Faults → Trace → Routed) → Still (routed t) r u
+      → Goes t (with_routes t r) (λ faults runs. with_routes (swap_turn faults runs t) (u faults runs))
+  steps-goes t r u s = record {
+    grows = s.grows;
+    goes = λ faults runs good fine.
+        let x = s.still faults runs good fine in
+        record {
+          faults = x.faults;
+          runs = x.runs;
+          is = ap (with_routes (swap_turn faults runs t)) x.is;
+          good = x.good;
+        };
+  }
+
+  control-goes : (p : ℕ) (piece : List ℕ) → Go (λ t. control setup t p piece) (λ t. control other t p piece)
+  unfolding control
+  control-goes p piece t = plain-goes t _ _ refl refl (λ faults runs. refl)
+
+  act-goes : (p : ℕ) (extra : List ℕ) (a : Act) → Go (λ t. act setup p extra t a) (λ t. act other p extra t a)
+  unfolding act
+  act-goes p extra acts.SendOpen t = control-goes p _ t
+  act-goes p extra acts.SendKeepalive t = control-goes p _ t
+  act-goes p extra (acts.SendNotice code subcode) t = control-goes p _ t
+  act-goes p extra acts.Up t =
+      let sessions = (t.speaker).sessions in
+      routes-goes t (came_up p ∷ []) (export_all setup sessions (routed t) p)
+      (λ faults runs. export_all other sessions (swap faults runs (routed t)) p)
+      (export_all-still sessions p (routed t))
+  act-goes p extra acts.Down t =
+      let sessions = (t.speaker).sessions in
+      routes-goes t (went_down p ∷ []) (lose setup sessions (routed t) p)
+      (λ faults runs. lose other sessions (swap faults runs (routed t)) p) (lose-still sessions p (routed t))
+  act-goes p extra acts.Close t = plain-goes t _ _ refl refl (λ faults runs. refl)
+
+  react-goes : (p : ℕ) (st : Stimulus) (extra : List ℕ)
+      → Go (λ t. react setup t p st extra) (λ t. react other t p st extra)
+  unfolding react
+  react-goes p st extra t =
+      let s = session_at t p in
+      let r = row s.own s.session (t.speaker).clock st in
+      let after : Owned = record s { session = r.session } in
+      let v = set_session t p after in
+      then-goes t v (λ faults runs. swap_turn faults runs v) (λ u. fold (act setup p extra) u r.acts)
+      (λ u. fold (act other p extra) u r.acts) (plain-goes t v _ refl refl (λ faults runs. refl))
+      (fold-goes (act setup p extra) (act other p extra) (act-goes p extra) r.acts v)
+
+  refuse-goes : (p : ℕ) (n : Notification) → Go (λ t. refuse setup t p n) (λ t. refuse other t p n)
+  unfolding refuse
+  refuse-goes p n t = react-goes p (stimuli.Fault n.code n.subcode) n.extra t
+
+  judged_open-goes : (p : ℕ) (body : List ℕ) (fault : Option Notification)
+      → Go (λ t. judged_open setup t p body fault) (λ t. judged_open other t p body fault)
+  judged_open-goes p body None t = react-goes p _ [] t
+  judged_open-goes p body (Some n) t = refuse-goes p n t
+
+  open_in-goes : (p : ℕ) (body : List ℕ) (state : State)
+      → Go (λ t. open_in setup t p body state) (λ t. open_in other t p body state)
+  unfolding open_in
+  open_in-goes p body OpenSent t = judged_open-goes p body _ t
+  open_in-goes p body Idle t = react-goes p stimuli.OpenLate [] t
+  open_in-goes p body Connect t = react-goes p stimuli.OpenLate [] t
+  open_in-goes p body OpenConfirm t = react-goes p stimuli.OpenLate [] t
+  open_in-goes p body Established t = react-goes p stimuli.OpenLate [] t
+
+  taken_update-goes : (p : ℕ) (body : List ℕ)
+      → Go (λ t. taken_update setup t p body) (λ t. taken_update other t p body)
+  taken_update-goes p body t =
+      let sessions = (t.speaker).sessions in
+      let now = (t.speaker).clock in
+      steps-goes t (update setup sessions now (routed t) p body)
+      (λ faults runs. update other sessions now (swap faults runs (routed t)) p body)
+      (update-still sessions now p body (routed t))
+
+  judged_update-goes : (p : ℕ) (body : List ℕ) (fault : Option Notification)
+      → Go (λ t. judged_update setup t p body fault) (λ t. judged_update other t p body fault)
+  judged_update-goes p body None t =
+      let v = react setup t p stimuli.Update [] in
+      then-goes t v (λ faults runs. react other (swap_turn faults runs t) p stimuli.Update [])
+      (λ u. taken_update setup u p body) (λ u. taken_update other u p body) (react-goes p stimuli.Update [] t)
+      (taken_update-goes p body v)
+  judged_update-goes p body (Some n) t = refuse-goes p n t
+
+  update_in-goes : (p : ℕ) (body : List ℕ) (state : State)
+      → Go (λ t. update_in setup t p body state) (λ t. update_in other t p body state)
+  unfolding update_in
+  update_in-goes p body Established t = judged_update-goes p body _ t
+  update_in-goes p body Idle t = react-goes p stimuli.Update [] t
+  update_in-goes p body Connect t = react-goes p stimuli.Update [] t
+  update_in-goes p body OpenSent t = react-goes p stimuli.Update [] t
+  update_in-goes p body OpenConfirm t = react-goes p stimuli.Update [] t
+
+  message_in-goes : (p : ℕ) (message : List ℕ)
+      → Go (λ t. message_in setup t p message) (λ t. message_in other t p message)
+  unfolding message_in
+  message_in-goes p message t =
+      let kind = message_kind message in
+      let body = message_body message in
+      if-goes (kind == OPEN) t _ _ _ _ (open_in-goes p body (state_of t p) t)
+      (if-goes (kind == UPDATE) t _ _ _ _ (update_in-goes p body (state_of t p) t)
+      (if-goes (kind == NOTIFICATION) t _ _ _ _ (react-goes p stimuli.Notified [] t)
+      (react-goes p stimuli.Keepalive [] t)))
+
+  front_in-goes : (f g : Turn → Turn) → Go f g → (p : ℕ) (size : Option ℕ) (fault : Option Notification)
+      → Go (λ t. front_in setup f t p size fault) (λ t. front_in other g t p size fault)
+  front_in-goes f g go p (Some n) fault t =
+      let message = take n (wait_of t p) in
+      let u = set_wait t p (drop n (wait_of t p)) in
+      let v = message_in setup u p message in
+      then-goes t v (λ faults runs. message_in other (swap_turn faults runs u) p message) f g
+      (then-goes t u (λ faults runs. swap_turn faults runs u) (λ w. message_in setup w p message)
+      (λ w. message_in other w p message) (plain-goes t u _ refl refl (λ faults runs. refl))
+      (message_in-goes p message u)) (go v)
+  front_in-goes f g go p None None t = stays-goes t
+  front_in-goes f g go p None (Some fault) t = refuse-goes p fault t
+
+  when_true-goes : (b : Bool) (f g : Turn → Turn) → Go f g → Go (when_true setup b f) (when_true other b g)
+  when_true-goes true f g go t = go t
+  when_true-goes false f g go t = stays-goes t
+
+  take_turns-goes : (turns p : ℕ) → Go (λ t. take_turns setup turns t p) (λ t. take_turns other turns t p)
+  unfolding take_turns
+  take_turns-goes zero p t = stays-goes t
+  take_turns-goes (suc turns) p t =
+      when_true-goes (is_live (state_of t p))
+      (λ u. front_in setup (λ v. take_turns setup turns v p) u p (message_size (wait_of u p))
+      (front_fault (wait_of u p)))
+      (λ u. front_in other (λ v. take_turns other turns v p) u p (message_size (wait_of u p))
+      (front_fault (wait_of u p)))
+      (λ u. front_in-goes (λ v. take_turns setup turns v p) (λ v. take_turns other turns v p)
+      (take_turns-goes turns p) p (message_size (wait_of u p)) (front_fault (wait_of u p)) u) t
+
+  octets_in-goes : (p : ℕ) (bytes : List ℕ) → Go (λ t. octets_in setup t p bytes) (λ t. octets_in other t p bytes)
+  unfolding octets_in
+  octets_in-goes p bytes t =
+      let whole = wait_of t p ++ bytes in
+      let u = set_wait t p whole in
+      if-goes (is_live (state_of t p)) t _ _ _ _
+      (then-goes t u (λ faults runs. swap_turn faults runs u) (λ v. take_turns setup (length whole) v p)
+      (λ v. take_turns other (length whole) v p) (plain-goes t u _ refl refl (λ faults runs. refl))
+      (take_turns-goes (length whole) p u)) (stays-goes t)
+
+  set_clock-goes : (now : ℕ) → Go (λ t. set_clock t now) (λ t. set_clock t now)
+  set_clock-goes now t = plain-goes t _ _ refl refl (λ faults runs. refl)
+
+  fire_in_time-goes : (f g : Turn → Turn) → Go f g → (now : ℕ) (d : Due) (b : Bool)
+      → Go (λ t. fire_in_time setup f t now d b) (λ t. fire_in_time other g t now d b)
+  fire_in_time-goes f g go now d true t =
+      let u = set_clock t d.at in
+      let v = react setup u d.peer (stimulus_of d.timer) [] in
+      then-goes t v (λ faults runs. react other (swap_turn faults runs u) d.peer (stimulus_of d.timer) []) f g
+      (then-goes t u (λ faults runs. swap_turn faults runs u)
+      (λ w. react setup w d.peer (stimulus_of d.timer) []) (λ w. react other w d.peer (stimulus_of d.timer) [])
+      (set_clock-goes d.at t) (react-goes d.peer (stimulus_of d.timer) [] u)) (go v)
+  fire_in_time-goes f g go now d false t = set_clock-goes now t
+
+  fire_first-goes : (f g : Turn → Turn) → Go f g → (now : ℕ) (o : Option Due)
+      → Go (λ t. fire_first setup f t now o) (λ t. fire_first other g t now o)
+  fire_first-goes f g go now None t = set_clock-goes now t
+  fire_first-goes f g go now (Some d) t = fire_in_time-goes f g go now d (nat_le d.at now) t
+
+  time_turns-goes : (turns now : ℕ) → Go (λ t. time_turns setup turns t now) (λ t. time_turns other turns t now)
+  unfolding time_turns
+  time_turns-goes zero now t = set_clock-goes now t
+  time_turns-goes (suc turns) now t =
+      fire_first-goes (λ u. time_turns setup turns u now) (λ u. time_turns other turns u now)
+      (time_turns-goes turns now) now (first_due t) t
+
+  time_to-goes : (now : ℕ) → Go (λ t. time_to setup t now) (λ t. time_to other t now)
+  unfolding time_to
+  time_to-goes now t =
+      time_turns-goes (2 * length (t.speaker).sessions * (now + 1 - (t.speaker).clock)) now t
+
+  -- ---- telling
+
+  form_next-goes : (f : Turn → Turn) → Go f f → (p : ℕ) (o : Option Formed)
+      → Go (λ t. form_next f t p o) (λ t. form_next f t p o)
+  form_next-goes f go p None t = stays-goes t
+  form_next-goes f go p (Some x) t =
+      let u = formed_rest t p x in
+      then-goes t u (λ faults runs. swap_turn faults runs u) f f
+      (plain-goes t u _ refl refl (λ faults runs. refl)) (go u)
+
+  rest_or_form-goes : (rule : Packing) (f : Turn → Option ℕ → Turn)
+      → ((limit : Option ℕ) → Go (λ t. f t limit) (λ t. f t limit)) → (p : ℕ) (limit : Option ℕ) (b : Bool)
+      → Go (λ t. rest_or_form rule f t p limit b) (λ t. rest_or_form rule f t p limit b)
+  rest_or_form-goes rule f go p limit true t =
+      let u = put_rest t p limit in
+      let left = less limit (length (rest_of t p)) in
+      then-goes t u (λ faults runs. swap_turn faults runs u) (λ v. f v left) (λ v. f v left)
+      (plain-goes t u _ refl refl (λ faults runs. refl)) (go left u)
+  rest_or_form-goes rule f go p limit false t =
+      form_next-goes (λ u. f u limit) (go limit) p (form rule (tables_at t p).adv (tables_at t p).told) t
+
+  unless_spent-goes : (b : Bool) (f : Turn → Turn) → Go f f → Go (unless_spent b f) (unless_spent b f)
+  unless_spent-goes true f go t = stays-goes t
+  unless_spent-goes false f go t = go t
+
+  emit_turns-goes : (rule : Packing) (turns p : ℕ) (limit : Option ℕ)
+      → Go (λ t. emit_turns rule turns t p limit) (λ t. emit_turns rule turns t p limit)
+  unfolding emit_turns
+  emit_turns-goes rule zero p limit t = stays-goes t
+  emit_turns-goes rule (suc turns) p limit t =
+      unless_spent-goes (is_spent limit)
+      (λ u. rest_or_form rule (λ v l. emit_turns rule turns v p l) u p limit (nat_lt 0 (length (rest_of u p))))
+      (λ u. rest_or_form-goes rule (λ v l. emit_turns rule turns v p l) (emit_turns-goes rule turns p) p limit
+      (nat_lt 0 (length (rest_of u p))) u) t
+
+  emit-goes : (rule : Packing) (p : ℕ) (limit : Option ℕ)
+      → Go (λ t. emit rule t p limit) (λ t. emit rule t p limit)
+  unfolding emit
+  emit-goes rule p limit t =
+      let turns = 2 + 2 * length (pending (tables_at t p).adv (tables_at t p).told) in
+      if-goes (is_up (t.speaker).sessions p) t _ _ _ _ (emit_turns-goes rule turns p limit t) (stays-goes t)
+
+  -- ---- events
+
+  turn-goes : (rule : Packing) (e : Event) → Go (λ t. turn rule setup t e) (λ t. turn rule other t e)
+  unfolding turn
+  turn-goes rule (start p) t = react-goes p stimuli.Start [] t
+  turn-goes rule (stop p) t = react-goes p stimuli.Stop [] t
+  turn-goes rule (up p) t = react-goes p stimuli.LinkUp [] t
+  turn-goes rule (down p) t = react-goes p stimuli.LinkDown [] t
+  turn-goes rule (octets p bytes) t = octets_in-goes p bytes t
+  turn-goes rule (time now) t = time_to-goes now t
+  turn-goes rule (room p k) t = emit-goes rule p (Some k) t
+  turn-goes rule (drain p) t = emit-goes rule p None t
+  turn-goes rule rescan t =
+      let sessions = (t.speaker).sessions in
+      let known = known_prefixes setup (t.speaker).routing in
+      steps-goes t (settle_all setup sessions (routed t) known)
+      (λ faults runs. settle_all other sessions (swap faults runs (routed t)) known)
+      (settle_all-still sessions known (routed t))
+
+  -- the faults of a speaker
+  abbrev noted_in : Speaker → Faults
+  noted_in s = ((s.routing).engine).faults
+
+  -- what an event does to a speaker, and to one with other faults
+  record AreEvent (rule : Packing) (s : Speaker) (e : Event) (faults : Faults) : Type 0 where
+    pub later : Faults
+    pub outputs : (event rule setup s e).outputs ≡ (event rule other (swap_speaker faults s) e).outputs
+    pub speaker :
+        (event rule other (swap_speaker faults s) e).speaker ≡ swap_speaker later (event rule setup s e).speaker
+    pub good : Good (noted_in (event rule setup s e).speaker) later
+
+  event_contained : (rule : Packing) (s : Speaker) (e : Event) (faults : Faults) → Good (noted_in s) faults
+      → AreFine (trace rule setup s e) → AreEvent rule s e faults
+  unfolding event trace
+  event_contained rule s e faults good fine =
+      let r = (turn-goes rule e (before s)).goes faults [] good fine in
+      record {
+        later = r.faults;
+        outputs = sym (ap (λ (t : Turn). t.outputs) r.is);
+        speaker = ap (λ (t : Turn). t.speaker) r.is;
+        good = r.good;
+      }
+
+  -- speakers that are alike
+  alike_is : (s t : Speaker) → AreAlike points setup.manifest s t → t ≡ swap_speaker (noted_in t) s
+  alike_is s t alike = sym (ap (λ (u : Speaker). swap_speaker (noted_in t) u) alike.0)
+
+  record Contained (rule : Packing) (s t : Speaker) (e : Event) : Type 0 where
+    pub outputs : (event rule setup s e).outputs ≡ (event rule other t e).outputs
+    pub alike : AreAlike points setup.manifest (event rule setup s e).speaker (event rule other t e).speaker
+    pub first : AreFaults (noted_in (event rule setup s e).speaker)
+    pub second : AreFaults (noted_in (event rule other t e).speaker)
+
+  swapped_contained : (rule : Packing) (s : Speaker) (e : Event) (faults : Faults) → Good (noted_in s) faults
+      → AreFine (trace rule setup s e) → Contained rule s (swap_speaker faults s) e
+  swapped_contained rule s e faults good fine =
+      let h = event rule setup s e in
+      let r = event_contained rule s e faults good fine in
+      record {
+        outputs = r.outputs;
+        alike = (
+          sym (ap without_faults r.speaker),
+          (r.good).same ∙ sym (ap (λ (u : Speaker). faults_elsewhere points setup.manifest u) r.speaker),
+        );
+        first = (r.good).first_sorted;
+        second =
+            subst (λ (u : Speaker). AreFaults (noted_in u)) (sym r.speaker) (r.good).second_sorted;
+      }
+
+  step_contained : (rule : Packing) (s t : Speaker) (e : Event) → AreFaults (noted_in s) → AreFaults (noted_in t)
+      → AreAlike points setup.manifest s t → AreFine (trace rule setup s e) → Contained rule s t e
+  step_contained rule s t e first second alike fine =
+      subst (λ (u : Speaker). Contained rule s u e) (sym (alike_is s t alike))
+      (swapped_contained rule s e (noted_in t)
+      (record { first_sorted = first; second_sorted = second; same = alike.1 }) fine)
+
+  history_contained : (rule : Packing) (es : List Event) (s t : Speaker) → AreFaults (noted_in s)
+      → AreFaults (noted_in t) → AreAlike points setup.manifest s t → AllFail rule points setup s es
+      → let h = history rule setup s es in let k = history rule other t es in
+      (h.outputs ≡ k.outputs) × AreAlike points setup.manifest h.speaker k.speaker
+  unfolding history
+  history_contained rule [] s t first second alike fail = (refl, alike)
+  history_contained rule (e ∷ es) s t first second alike fail =
+      let step = step_contained rule s t e first second alike fail.0 in
+      let h = event rule setup s e in
+      let k = event rule other t e in
+      let rest = history_contained rule es h.speaker k.speaker step.first step.second step.alike fail.1 in (
+        ap (λ (os : List Output). os ++ (history rule setup h.speaker es).outputs) step.outputs
+            ∙ ap (λ (os : List Output). k.outputs ++ os) rest.0,
+        rest.1,
+      )
+
+-- ---- the faults of a reached speaker are a set
+
+no_point : (runs : Trace) → all_fail [] runs ≡ true
+no_point [] = refl
+no_point (r ∷ runs) = no_point runs
+
+module _ (rule : Packing) (setup : Setup) (loaded : IsManifest setup.manifest) where
+  event_sorted : (s : Speaker) (e : Event) → AreFaults ((s.routing).engine).faults
+      → AreFaults ((((event rule setup s e).speaker).routing).engine).faults
+  event_sorted s e sorted =
+      let faults = ((s.routing).engine).faults in
+      let good : IsGood [] setup faults faults =
+      record { first_sorted = sorted; second_sorted = sorted; same = refl } in
+      let r = event_contained [] setup loaded rule s e faults good (no_point (trace rule setup s e)) in
+      (r.good).first_sorted
+
+  history_sorted : (es : List Event) (s : Speaker) → AreFaults ((s.routing).engine).faults
+      → AreFaults ((((history rule setup s es).speaker).routing).engine).faults
+  unfolding history
+  history_sorted [] s sorted = sorted
+  history_sorted (e ∷ es) s sorted = history_sorted es (event rule setup s e).speaker (event_sorted s e sorted)
+
+  start_sorted : AreFaults (((start_of setup).routing).engine).faults
+  unfolding IsStrictlySortedBy
+  start_sorted = tt
+
+  reached_sorted : (s : Speaker) → IsReached rule setup s → AreFaults ((s.routing).engine).faults
+  reached_sorted s reached =
+      subst (λ (u : Speaker). AreFaults ((u.routing).engine).faults) (sym reached.2)
+      (history_sorted reached.0 (start_of setup) start_sorted)
+
+pub contained_step_holds : contained_step
+contained_step_holds rule points setup s t e accepted reached sorted configured range alike fail =
+    let step = step_contained points setup accepted.1 rule s t e (reached_sorted rule setup accepted.1 s reached)
+    sorted alike fail in
+    (step.outputs, step.alike)
+
+pub containment_holds : containment
+containment_holds rule points setup es accepted events fail =
+    let sorted = start_sorted rule setup accepted.1 in
+    history_contained points setup accepted.1 rule es (start_of setup) (start_of setup) sorted sorted (refl, refl) fail

@@ -1,6 +1,6 @@
 //! Laws over all lists of events, each the contract of a function without parameters.
-ghost use Rattle.spk_model.specs.Laws.{cutting, damage, encode_again, heard_is_told, own_event, rule_free};
-ghost use Rattle.spk_model.specs.Laws.{told_is_advertised};
+ghost use Rattle.spk_model.specs.Laws.{contained_step, containment, cutting, damage, encode_again, heard_is_told};
+ghost use Rattle.spk_model.specs.Laws.{own_event, rule_free, told_is_advertised};
 
 /// Octets that come from a peer in two pieces give what they give in one: the same outputs, and the same speaker.
 pub fn cutting()
@@ -33,6 +33,17 @@ pub fn damage()
 /// An event of a peer sends nothing to another peer, and leaves all of it but what it is advertised.
 pub fn own_event()
     ensures { own_event }
+{}
+
+/// An event at which all programs at some points fail does what it does with programs there that only call `next`.
+pub fn contained_step()
+    ensures { contained_step }
+{}
+
+/// If all programs at some points fail at each event, all outputs are those with programs there that only call `next`,
+/// and the speakers after them agree on all but the faults of these programs.
+pub fn containment()
+    ensures { containment }
 {}
 
 /// An export that is encoded again, with the same maps and all faults noted, gives the same section and changes nothing.
