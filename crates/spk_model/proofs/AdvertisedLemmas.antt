@@ -20,7 +20,8 @@ use Rattle.bgp_write.specs.Pending.{pending, same_section}
 
 -- ---- what holds of a set holds of the list that it was made of
 
-by_ordering : {P : Type 0} (r : Ordering) → (r ≡ Less → P) → (r ≡ Equal → P) → (r ≡ Greater → P) → P
+-- an ordering is one of three
+pub by_ordering : {P : Type 0} (r : Ordering) → (r ≡ Less → P) → (r ≡ Equal → P) → (r ≡ Greater → P) → P
 by_ordering Less l e g = l refl
 by_ordering Equal l e g = e refl
 by_ordering Greater l e g = g refl

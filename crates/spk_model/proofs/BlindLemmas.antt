@@ -8,7 +8,7 @@ use Rattle.std.proofs.Math.ListN.{set}
 use Rattle.std.specs.Prelude.{◌==◌, if◌then◌else◌, filter, filter_map, flat_map, length, nat_le, nat_lt, not}
 use Rattle.std.specs.Option.{option_map}
 use Rattle.std.specs.Map.{keys_of}
-use Rattle.std.specs.List.{cons_option, list_any, slice_index_or}
+use Rattle.std.specs.List.{cons_option, list_any}
 use Rattle.xb_words.specs.Table.{set_of, value_at, with_value, without}
 use Rattle.xb_domain.specs.declared.output.Packing.{Packing}
 use Rattle.xb_domain.specs.declared.output.Packing.TheVariants.{Grouped, Sorted}
@@ -29,15 +29,13 @@ use Rattle.bgp_fsm.specs.declared.Act.{Act}
 use Rattle.bgp_fsm.specs.declared.Act.TheVariants as acts
 use Rattle.bgp_fsm.specs.Sessions.{Owned, row, is_live}
 use Rattle.xbgp_config.specs.Configs.{same_prefix}
-use Rattle.xbgp_view.specs.Views.{Routes}
 use Rattle.spk_native.specs.Filters.{accepts_inbound}
-use Rattle.xbgp_points.specs.Points.{Engine, Called, receive, inbound}
+use Rattle.xbgp_points.specs.Points.{Called, receive, inbound}
 use Rattle.spk_model.specs.declared.host.Setup.{Setup}
 use Rattle.spk_model.specs.Sources.{peer_numbers, is_up, side_of}
-use Rattle.spk_model.specs.Choosing.{Trace, Candidate}
-use Rattle.spk_model.specs.Tournaments.{choose}
-use Rattle.spk_model.specs.Exporting.{Exported, accepted, exported}
-use Rattle.spk_model.specs.Routing.{Routed, Tables, Chosen, best_of, at_tables, set_routes, set_adv, set_best, ran_all}
+use Rattle.spk_model.specs.Choosing.{Candidate}
+use Rattle.spk_model.specs.Exporting.{Exported, accepted}
+use Rattle.spk_model.specs.Routing.{Routed, Tables, Chosen, at_tables, set_routes, set_adv, set_best, ran_all}
 use Rattle.spk_model.specs.Routing.{candidate, local_candidates, candidates, decided, set_tables, no_tables}
 use Rattle.spk_model.specs.Routing.{decide, advertise, export_best, export, settle, settle_all, export_all}
 use Rattle.spk_model.specs.Routing.{announce_one, without_all}

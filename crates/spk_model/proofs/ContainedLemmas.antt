@@ -1,10 +1,10 @@
 -- An event at which all programs at some points fail does what it does with programs there that only call `next`.
-use Rattle.std.proofs.Common.{◌≡◌, refl, sym, ap, ◌∙◌, subst, inl, inr, ℕ, zero, suc, ◌+◌, ◌*◌, ◌-◌, Bool, true, false}
-use Rattle.std.proofs.Common.{List, [], ◌∷◌, ◌++◌, Option, Some, None, fold, map, take, drop}
+use Rattle.std.proofs.Common.{◌≡◌, refl, sym, ap, ◌∙◌, subst, ℕ, zero, suc, ◌+◌, ◌*◌, ◌-◌, Bool, true, false}
+use Rattle.std.proofs.Common.{List, [], ◌∷◌, ◌++◌, Option, Some, None, fold, take, drop}
 use Rattle.std.proofs.lemmas.Bool.{and_parts}
 use Rattle.std.specs.Prelude.{◌==◌, ◌&&◌, ◌||◌, filter, if◌then◌else◌, length, nat_le, nat_lt, not}
 use Rattle.std.specs.Map.{keys_of}
-use Rattle.std.specs.List.{list_all, list_any, slice_index_or}
+use Rattle.std.specs.List.{list_any, slice_index_or}
 use Rattle.std.specs.List.Sorted.{IsStrictlySortedBy}
 use Rattle.xb_words.specs.Table.{set_of, value_at, with_value, without}
 use Rattle.xb_domain.specs.declared.output.Packing.{Packing}
@@ -41,23 +41,23 @@ use Rattle.xbgp_points.specs.Points.{section_by, world_of}
 use Rattle.spk_model.specs.declared.host.Setup.{Setup}
 use Rattle.spk_model.specs.Sources.{is_up, is_wide, peer_numbers, side_of}
 use Rattle.spk_model.specs.Choosing.{Candidate, Choice, Trace}
-use Rattle.spk_model.specs.Tournaments.{Match, after_meeting, choose, chosen, first_match, is_new_preferred}
+use Rattle.spk_model.specs.Tournaments.{Match, choose, chosen, first_match, is_new_preferred}
 use Rattle.spk_model.specs.Tournaments.{is_verdict, meet, meet_all, meeting}
 use Rattle.spk_model.specs.Exporting.{Exported, accepted, encoded_for, exported, section_or, short_enough}
-use Rattle.spk_model.specs.Routing.{Chosen, Routed, Tables, advertise, announce, announce_one, at_tables, best_of}
+use Rattle.spk_model.specs.Routing.{Chosen, Routed, announce, announce_one, at_tables, best_of}
 use Rattle.spk_model.specs.Routing.{candidates, decide, decided, drop_all, export, export_all, export_best, lose}
 use Rattle.spk_model.specs.Routing.{no_tables, ran_all, receive_if, receive_route, routes_of, set_adv, set_best}
 use Rattle.spk_model.specs.Routing.{set_routes, set_tables, settle, settle_all, update, withdraw}
-use Rattle.spk_model.specs.Turning.{Due, Speaker, Turn, act, before, control, due_of, earlier_due, emit, emit_turns}
+use Rattle.spk_model.specs.Turning.{Due, Speaker, Turn, act, before, control, emit, emit_turns}
 use Rattle.spk_model.specs.Turning.{event, fire_first, fire_in_time, first_due, form_next, formed_rest, front_in, gives}
 use Rattle.spk_model.specs.Turning.{history, is_spent, judged_open, judged_update, known_prefixes, less, message_in}
 use Rattle.spk_model.specs.Turning.{octets_in, open_in, put_rest, react, refuse, rest_of, rest_or_form, routed}
-use Rattle.spk_model.specs.Turning.{session_at, set_clock, set_rest, set_session, set_wait, start_of, state_of}
+use Rattle.spk_model.specs.Turning.{session_at, set_clock, set_session, set_wait, start_of, state_of}
 use Rattle.spk_model.specs.Turning.{stimulus_of, tables_at, take_turns, taken_update, time_to, time_turns, trace, turn}
 use Rattle.spk_model.specs.Turning.{unless_spent, update_in, wait_of, when_true, with_routes}
-use Rattle.spk_model.specs.Laws.{AllFail, AreAlike, AreEvents, AreFaults, IsReached, all_fail, contained_step}
+use Rattle.spk_model.specs.Laws.{AllFail, AreAlike, AreFaults, IsReached, all_fail, contained_step}
 use Rattle.spk_model.specs.Laws.{containment, faults_elsewhere, has_point, stilled, without_faults}
-use Rattle.spk_model.proofs.StilledLemmas.{IsGood, chain_stilled, heart, is_elsewhere}
+use Rattle.spk_model.proofs.StilledLemmas.{IsGood, chain_stilled, heart}
 
 -- ---- outcomes that count as the same
 

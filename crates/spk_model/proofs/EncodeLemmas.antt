@@ -1,5 +1,5 @@
 -- An export that is encoded again, with the same maps and all faults noted, gives the same section and changes nothing.
-use Rattle.std.proofs.Common.{◌≡◌, refl, sym, ap, ◌∙◌, ℕ, zero, suc, true, List, [], ◌∷◌, Option, Some, None, subst}
+use Rattle.std.proofs.Common.{◌≡◌, refl, sym, ap, ◌∙◌, ℕ, zero, suc, true, List, [], ◌∷◌, Option, Some, subst}
 use Rattle.std.specs.List.{AllByRecursion, slice_get}
 use Rattle.xb_words.specs.Table.{has_key}
 use Rattle.xb_domain.specs.declared.point.Point.TheVariants.{Encode}

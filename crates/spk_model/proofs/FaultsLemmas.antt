@@ -3,13 +3,12 @@ use Rattle.std.proofs.Common.{◌≡◌, refl, sym, ap, ◌∙◌, inl, inr, ℕ
 use Rattle.std.proofs.lemmas.Bool.{and_parts, cases_Bool}
 use Rattle.std.proofs.lemmas.Cmp.{nat_cmp_total, on_total, then_total}
 use Rattle.std.proofs.lemmas.Map.Lookups.{exact_pairs, exact_unsigned}
-use Rattle.std.specs.Prelude.{filter, ◌&&◌, ◌||◌}
+use Rattle.std.specs.Prelude.{filter}
 use Rattle.std.specs.Cmp.{IsTotalOrder}
 use Rattle.std.specs.List.{AllByRecursion, list_all}
 use Rattle.std.specs.List.Sorted.{IsStrictlySortedBy}
 use Rattle.std.specs.Ordering.{nat_cmp, ordering_reverse}
-use Rattle.std.specs.declared.cmp.Ordering.{Ordering}
-use Rattle.std.specs.declared.cmp.Ordering.TheVariants.{Less, Equal, Greater}
+use Rattle.std.specs.declared.cmp.Ordering.TheVariants.{Less, Equal}
 use Rattle.xb_words.specs.Table.{has_key, with_key}
 use Rattle.xb_domain.specs.declared.point.Point.{Point}
 use Rattle.bpf_machine.specs.declared.world.Cause.{Cause}
@@ -23,6 +22,7 @@ use Rattle.xbgp_points.specs.declared.outcome.Outcome.TheVariants.{Verdict, Nati
 use Rattle.xbgp_points.specs.Chains.{Chained, Faults, after_program, cause_number, chain_from, fault_cmp, is_listed}
 use Rattle.xbgp_points.specs.Chains.{output_fits, run_program, with_fault}
 use Rattle.spk_model.specs.Laws.{AreFaults}
+use Rattle.spk_model.proofs.AdvertisedLemmas.{by_ordering}
 
 -- ---- the order of faults
 
@@ -47,11 +47,6 @@ exact_cause causes.BadOutput other e = absurd (cc e)
 fault_exact : (a b : ℕ × Cause) → fault_cmp a b ≡ Equal → a ≡ b
 fault_exact a b e =
     exact_pairs nat_cmp (λ c d. nat_cmp (cause_number c) (cause_number d)) exact_unsigned exact_cause a b e
-
-by_ordering : {P : Type 0} (r : Ordering) → (r ≡ Less → P) → (r ≡ Equal → P) → (r ≡ Greater → P) → P
-by_ordering Less l e g = l refl
-by_ordering Equal l e g = e refl
-by_ordering Greater l e g = g refl
 
 -- a fault is below all of some
 abbrev IsBelow : ℕ × Cause → Faults → Type 0

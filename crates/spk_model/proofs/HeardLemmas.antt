@@ -4,28 +4,28 @@ use Rattle.std.proofs.Common.{Option, Some, None, append_assoc, arith, fold, fla
 use Rattle.std.proofs.Common.{take, zero}
 use Rattle.std.proofs.lemmas.Bool.{cases_Bool, ltb-false}
 use Rattle.std.proofs.lemmas.List.{append-nil, length-append}
-use Rattle.std.specs.Prelude.{◌==◌, Result, Ok, Err, filter, find, if◌then◌else◌, is_none, nat_lt, not, take_while}
-use Rattle.std.specs.List.{AllByRecursion, concat}
+use Rattle.std.specs.Prelude.{◌==◌, Result, Ok, Err, filter, find, if◌then◌else◌, is_none, nat_lt, not}
+use Rattle.std.specs.List.{All, AllByRecursion, concat}
 use Rattle.std.specs.Map.{keys_of}
 use Rattle.std.specs.Ordering.{match_ordering}
 use Rattle.std.specs.declared.cmp.Ordering.{Ordering}
 use Rattle.std.specs.declared.cmp.Ordering.TheVariants.{Less, Equal, Greater}
-use Rattle.xb_words.specs.Cut.{Pieces, cut, with_offsets}
+use Rattle.xb_words.specs.Cut.{Pieces, with_offsets}
 use Rattle.xb_words.specs.Table.{set_of, value_at, with_key, with_keys, with_value, without, IsRising}
 use Rattle.xb_words.proofs.CutLemmas.{cut-concat}
 use Rattle.xb_words.proofs.TableLemmas.{AllByRecursion-with_value, AllByRecursion-without, IsRising-with_value}
 use Rattle.xb_words.proofs.TableLemmas.{IsRising-without, value_at-some}
 use Rattle.xb_domain.specs.declared.output.Packing.{Packing}
 use Rattle.xb_domain.specs.declared.output.Packing.TheVariants.{Grouped, Sorted}
-use Rattle.xb_values.specs.Prefixes.{IsPrefix, Prefix, Sections, are_prefixes, prefix_cmp, prefix_octets, prefixes}
+use Rattle.xb_values.specs.Prefixes.{IsPrefix, Prefix, Sections, are_prefixes, prefix_cmp, prefix_octets}
 use Rattle.xb_values.proofs.PrefixLemmas.{prefix_total}
-use Rattle.xb_wire.specs.declared.numbers.TheConstants.{EMPTY_UPDATE, MAX_MESSAGE, MAX_SECTION, UPDATE}
-use Rattle.xb_wire.specs.Messages.{IsMessage, Update, lengths_fit, message_body, message_kind, message_size, split}
-use Rattle.xb_wire.specs.Messages.{update_body, update_message, update_of, update_parts}
+use Rattle.xb_wire.specs.declared.numbers.TheConstants.{EMPTY_UPDATE, MAX_MESSAGE, MAX_SECTION}
+use Rattle.xb_wire.specs.Messages.{IsMessage, Update, lengths_fit, message_size, split}
+use Rattle.xb_wire.specs.Messages.{update_body, update_message, update_parts}
 use Rattle.xb_wire.proofs.MessageLemmas.{message_size_is_size, message_size_is_stable}
 use Rattle.bgp_update.specs.Heard.{after_message, after_update, announced_in, heard, is_readable, is_refused}
 use Rattle.bgp_write.specs.Pending.{Formed, announced, announcement, fitting, form, has_section, pending}
-use Rattle.bgp_write.specs.Pending.{same_section, section_of, together, withdrawal, withdrawn_first}
+use Rattle.bgp_write.specs.Pending.{section_of, together, withdrawal, withdrawn_first}
 use Rattle.bgp_write.specs.Written.{keepalive_message, wide_open_message}
 use Rattle.bgp_write.proofs.MessageLemmas.{length-update_message, update_is_message}
 use Rattle.bgp_write.proofs.ReadBackLemmas.{are_prefixes-flat_map, prefixes-flat_map, update_of-update_body}
@@ -181,6 +181,14 @@ all-filter P test (x ∷ xs) all =
       | inl passes ↦ rw passes (all.0, all-filter P test xs all.1)
       | inr fails ↦ rw fails (all-filter P test xs all.1)
     ]
+
+-- what holds of each element by its place holds of each along the list
+pub AllByRecursion-All : {A : Type 0} (P : A → Type 0) (xs : List A) → All P xs → AllByRecursion P xs
+AllByRecursion-All P [] all = tt
+AllByRecursion-All P (x ∷ xs) all = (
+  all 0 x (omega arith),
+  AllByRecursion-All P xs (λ k d within. all (suc k) d (omega (arith, within))),
+)
 
 pub all-append : {A : Type 0} (P : A → Type 0) (xs ys : List A) → AllByRecursion P xs → AllByRecursion P ys
     → AllByRecursion P (xs ++ ys)

@@ -1,15 +1,15 @@
 -- The prefixes that octets write are prefixes.
-use Rattle.std.proofs.Common.{◌≡◌, refl, ap, ℕ, zero, suc, ◌+◌, ◌<◌, ◌≤◌, ◌^◌, ◌&&◌, Bool, true, inl, inr, arith}
-use Rattle.std.proofs.Common.{List, [], ◌∷◌, ◌++◌, Option, Some, None, drop, get_or, length, map, nat_le, subst, take}
+use Rattle.std.proofs.Common.{◌≡◌, refl, ap, ℕ, zero, suc, ◌+◌, ◌<◌, ◌≤◌, ◌^◌, ◌&&◌, inl, inr, arith}
+use Rattle.std.proofs.Common.{List, [], ◌∷◌, Some, None, drop, length, map, nat_le, subst, take}
 use Rattle.std.proofs.lemmas.Bool.{and_parts, cases_Bool, leb-true}
-use Rattle.std.specs.Prelude.{slice_index, slice_range}
+use Rattle.std.specs.Prelude.{slice_index}
 use Rattle.std.specs.List.{AllByRecursion}
 use Rattle.xb_words.specs.Cut.{cut, cut_turns}
 use Rattle.xb_words.specs.Octets.{AreOctets, four_at}
 use Rattle.xb_words.proofs.CutLemmas.{cut_by}
 use Rattle.xb_values.specs.Prefixes.{IsPrefix, octets_for, prefix_at, prefix_size, prefixes}
 use Rattle.xb_values.proofs.PrefixLemmas.{prefix_of_is_prefix}
-use Rattle.xb_wire.specs.Messages.{message_body, update_parts}
+use Rattle.xb_wire.specs.Messages.{update_parts}
 use Rattle.bgp_path.proofs.NumbersLemmas.{AreOctets-drop, get_or-AreOctets}
 use Rattle.bpf_mem.proofs.OffsetLemmas.{AreOctets-take}
 

@@ -1,9 +1,9 @@
 -- A chain that fails, and the chain of programs in its place that only call `next`, leave the same.
 use Rattle.std.proofs.Common.{◌≡◌, refl, sym, ap, ◌∙◌, subst, inl, inr, ℕ, zero, suc, ◌+◌, ◌≤◌, Bool, true, false, arith}
-use Rattle.std.proofs.Common.{List, [], ◌∷◌, ◌++◌, cond, map}
+use Rattle.std.proofs.Common.{List, [], ◌∷◌, cond, map}
 use Rattle.std.proofs.lemmas.Bool.{and_parts, cases_Bool, eq-eqb, eqb-true, leb-true}
 use Rattle.std.specs.Prelude.{◌==◌, ◌&&◌, ◌||◌, filter, if◌then◌else◌, not}
-use Rattle.std.specs.List.{All, AllByRecursion, list_any}
+use Rattle.std.specs.List.{AllByRecursion, list_any}
 use Rattle.xb_words.specs.Table.{with_key}
 use Rattle.xb_domain.specs.declared.point.Point.{Point}
 use Rattle.xb_domain.specs.declared.point.Point.TheVariants.{Receive, Inbound, Decision, Outbound, Encode}
@@ -27,7 +27,7 @@ use Rattle.spk_model.specs.declared.host.Setup.{Setup}
 use Rattle.spk_model.specs.Laws.{AreFaults, has_point, next_code, program_at, stilled, stilled_program}
 use Rattle.spk_model.proofs.FaultsLemmas.{after_faults, chain_from-noted, filter-with_key-fails}
 use Rattle.spk_model.proofs.FaultsLemmas.{filter-with_key-passes, noted, with_key-sorted}
-use Rattle.spk_model.proofs.HeardLemmas.{all-filter, all-weaken}
+use Rattle.spk_model.proofs.HeardLemmas.{AllByRecursion-All, all-filter, all-weaken}
 
 -- ---- lists
 
@@ -43,13 +43,6 @@ all-passes test (x ∷ xs) =
       | inl passes ↦ rw passes (passes, all-passes test xs)
       | inr fails ↦ rw fails (all-passes test xs)
     ]
-
-all_elements : {A : Type 0} (P : A → Type 0) (xs : List A) → All P xs → AllByRecursion P xs
-all_elements P [] all = tt
-all_elements P (x ∷ xs) all = (
-  all 0 x (omega arith),
-  all_elements P xs (λ k d within. all (suc k) d (omega (arith, within))),
-)
 
 or-right : (a b : Bool) → b ≡ true → (a || b) ≡ true
 or-right true b e = refl
@@ -307,7 +300,7 @@ module _ (points : List Point) (setup : Setup) where
         let places : AllByRecursion (λ q. has_point points (q.1).point ≡ true) qs =
         all-weaken (λ q. is_at point q ≡ true) (λ q. has_point points (q.1).point ≡ true)
         (λ q is. same_where (q.1).point point is ∙ here) qs (all-passes (is_at point) all) in
-        let programs = all_elements IsProgram (setup.manifest).programs accepted.programs in
+        let programs = AllByRecursion-All IsProgram (setup.manifest).programs accepted.programs in
         let some : AllByRecursion (λ q. 1 ≤ (q.1).fuel) qs =
         all-filter (λ q. 1 ≤ (q.1).fuel) (is_at point) all (fuels 0 (setup.manifest).programs programs) in
         let there = all-filter (λ q. (t : ℕ × ProgramEntry → Bool) → t q ≡ true → list_any t all ≡ true)

@@ -1,25 +1,24 @@
 -- What a peer was sent, with what is left of a message, tells it what it was told.
-use Rattle.std.proofs.Common.{◌≡◌, ◌≢◌, refl, sym, ap, ◌∙◌, subst, inl, inr, ℕ, zero, suc, ◌+◌, ◌*◌, ◌-◌, ◌<◌, ◌≤◌, arith}
+use Rattle.std.proofs.Common.{◌≡◌, refl, sym, ap, ◌∙◌, subst, inl, inr, ℕ, zero, suc, ◌+◌, ◌*◌, ◌-◌, ◌<◌, ◌≤◌, arith}
 use Rattle.std.proofs.Common.{Bool, true, false, List, [], ◌∷◌, ◌++◌, append_assoc, length, take, drop, Option, Some, None}
 use Rattle.std.proofs.Common.{fold, map, get_or}
 use Rattle.std.proofs.lemmas.Bool.{and_parts, cases_Bool, eq-eqb, eqb-false, eqb-true, ltb-false}
 use Rattle.std.proofs.lemmas.Grind.{flat_map-append}
-use Rattle.std.proofs.lemmas.List.{append-nil, get_or-set_same, length-set, length-map, take-append-drop}
-use Rattle.std.specs.Prelude.{◌==◌, ◌&&◌, nat_le, nat_lt, flat_map, if◌then◌else◌}
+use Rattle.std.proofs.lemmas.List.{append-nil, get_or-set_same, length-set, length-map}
+use Rattle.std.specs.Prelude.{◌==◌, nat_le, nat_lt, flat_map, if◌then◌else◌}
 use Rattle.std.specs.Map.{keys_of}
 use Rattle.std.specs.Option.{option_map}
-use Rattle.std.specs.List.{AllByRecursion, All, range_with_len}
+use Rattle.std.specs.List.{AllByRecursion, range_with_len}
 use Rattle.xb_words.specs.Octets.{AreOctets}
 use Rattle.xb_words.specs.Table.{with_value}
 use Rattle.xb_words.proofs.TableLemmas.{AllByRecursion-with_value}
 use Rattle.xb_domain.specs.declared.output.Packing.{Packing}
 use Rattle.xb_domain.specs.Events.{Event, start, stop, up, down, octets, time, room, drain, rescan}
-use Rattle.xb_domain.specs.Outputs.{Output, came_up, went_down, sent}
+use Rattle.xb_domain.specs.Outputs.{Output, came_up, went_down}
 use Rattle.xb_values.specs.Prefixes.{Prefix, Sections, IsPrefix, prefix_cmp}
 use Rattle.xb_wire.specs.declared.numbers.TheConstants.{HEADER, OPEN, UPDATE, NOTIFICATION}
 use Rattle.xb_wire.specs.Messages.{Notification, message_kind, message_body, message_size, front_fault}
 use Rattle.bgp_attr.specs.Paths.{width_of}
-use Rattle.bgp_update.specs.Heard.{heard}
 use Rattle.bgp_path.proofs.NumbersLemmas.{AreOctets-drop}
 use Rattle.bgp_check.specs.Judgement.{judge}
 use Rattle.bgp_open.specs.Opens.{judge_open4, open_seen4}
@@ -36,8 +35,8 @@ use Rattle.bgp_fsm.specs.declared.Timer.TheVariants as timers
 use Rattle.bgp_fsm.specs.Sessions.{Owned, Reaction, Session, down_if_up, row, start_session, is_live, due}
 use Rattle.bpf_mem.proofs.OffsetLemmas.{AreOctets-take}
 use Rattle.spk_model.specs.declared.host.Setup.{Setup}
-use Rattle.spk_model.specs.Sources.{entry_of, session_of, is_established, is_up, is_wide, local_route, peer_numbers}
-use Rattle.spk_model.specs.Routing.{Routed, Routing, Tables, Chosen, no_tables, at_tables, tables_of, set_tables, lose}
+use Rattle.spk_model.specs.Sources.{entry_of, session_of, is_established, is_up, is_wide}
+use Rattle.spk_model.specs.Routing.{Routed, Tables, Chosen, no_tables, at_tables, tables_of, set_tables, lose}
 use Rattle.spk_model.specs.Routing.{export_all, settle_all, update}
 use Rattle.spk_model.specs.Turning.{Speaker, Turn, gives, put, routed, with_routes, rest_of, set_rest, wait_of, set_wait}
 use Rattle.spk_model.specs.Turning.{session_at, set_session, set_clock, state_of, tables_at, control, act, react, refuse}
@@ -45,15 +44,15 @@ use Rattle.spk_model.specs.Turning.{judged_open, open_in, taken_update, judged_u
 use Rattle.spk_model.specs.Turning.{when_true, take_turns, octets_in, Due, earlier_due, due_of, first_due, stimulus_of}
 use Rattle.spk_model.specs.Turning.{fire_in_time, fire_first, time_turns, time_to, within, less, is_spent, put_rest}
 use Rattle.spk_model.specs.Turning.{formed_rest, form_next, rest_or_form, unless_spent, emit_turns, emit, known_prefixes}
-use Rattle.spk_model.specs.Turning.{turn, before, event, history, start_routing, start_of}
+use Rattle.spk_model.specs.Turning.{turn, before, event, history, start_of}
 use Rattle.spk_model.specs.Readers.{AreConfigured, IsPeer}
 use Rattle.spk_model.specs.Laws.{IsSetup, IsInRange, AreEvents, IsReached, octets_to, state_in, is_connect, begins}
 use Rattle.spk_model.specs.Laws.{sent_since, heard_is_told, rest_in, told_is_advertised}
 use Rattle.spk_model.proofs.AdvertisedLemmas.{told-adv}
-use Rattle.spk_model.proofs.HeardLemmas.{AreTold, IsShort, Tells, all-append, all-keys, all-weaken, form_tells}
+use Rattle.spk_model.proofs.HeardLemmas.{AllByRecursion-All, AreTold, IsShort, Tells, all-append, all-keys, all-weaken, form_tells}
 use Rattle.spk_model.proofs.HeardLemmas.{heard-tells}
 use Rattle.spk_model.proofs.HeardLemmas.{tells-keepalive, tells-nil, tells-open}
-use Rattle.spk_model.proofs.OthersLemmas.{Kept, Seen, seen, kept_of, not_same, not_near, part_kept, react-unseen}
+use Rattle.spk_model.proofs.OthersLemmas.{Kept, Seen, not_near, react-unseen}
 use Rattle.spk_model.proofs.OthersLemmas.{emit-unseen, export_all-safe, settle_all-safe}
 use Rattle.spk_model.proofs.SoundLemmas.{IsSound, AreSound, part_all, sound_itself, no_tables_sound, export_all-sound}
 use Rattle.spk_model.proofs.SoundLemmas.{lose-sound, settle_all-sound, update-sound}
@@ -155,13 +154,6 @@ allows_timer timers.Keepalive state bytes = tt
 
 -- ---- lists
 
-all_listed : {A : Type 0} (P : A → Type 0) (xs : List A) → All P xs → AllByRecursion P xs
-all_listed P [] all = tt
-all_listed P (x ∷ xs) all = (
-  all 0 x (omega arith),
-  all_listed P xs (λ k d within. all (suc k) d (omega (arith, within))),
-)
-
 all_elements : {A : Type 0} (P : A → Type 0) (d : A) (xs : List A) → ((i : ℕ) → P (get_or xs i d))
     → AllByRecursion P xs
 all_elements P d [] all = tt
@@ -225,8 +217,8 @@ unless_spent-by P false go t h k = h
 module _ (P : Turn → Type 0) (rule : Packing) (p : ℕ)
     (puts : (t : Turn) (limit : Option ℕ) → P t → P (put_rest t p limit))
     (forms :
-        (t : Turn) (f : Formed) → rest_of t p ≡ [] → form rule (tables_at t p).adv (tables_at t p).told ≡ Some f
-        → P t → P (formed_rest t p f)) where
+    (t : Turn) (f : Formed) → rest_of t p ≡ [] → form rule (tables_at t p).adv (tables_at t p).told ≡ Some f
+    → P t → P (formed_rest t p f)) where
   rest_or_form-by : (rest : Turn → Option ℕ → Turn) → ((t : Turn) (l : Option ℕ) → P t → P (rest t l)) → (t : Turn)
       (limit : Option ℕ) (b : Bool) → nat_lt 0 (length (rest_of t p)) ≡ b → P t
       → P (rest_or_form rule rest t p limit b)
@@ -916,7 +908,7 @@ module _ (setup : Setup) (q : ℕ) where
           let here : i + 1 - 1 ≡ i = omega arith in
           subst (λ (j : ℕ). AreSound (get_or tables j no_tables)) here ((k.routes).each (i + 1)) in
           all-append IsPrefix (setup.config).networks (flat_map (λ x. keys_of x.adjin ++ keys_of x.adv) tables)
-          (all_listed IsPrefix (setup.config).networks (accepted.0).networks)
+          (AllByRecursion-All IsPrefix (setup.config).networks (accepted.0).networks)
           (keys_are tables (all_elements AreSound no_tables tables each))
 
       turn_heard : IsSetup setup → (rule : Packing) (t : Turn) (e : Event) → AreConfigured setup t.speaker e
@@ -1038,7 +1030,7 @@ module _ (setup : Setup) (q : ℕ) where
         record {
           kept = record {
             routes = record {
-              best = best_are _ config.networks [] (all_listed IsPrefix config.networks (accepted.0).networks) tt;
+              best = best_are _ config.networks [] (AllByRecursion-All IsPrefix config.networks (accepted.0).networks) tt;
               each = λ p. map_all AreSound no_tables no_tables config.peers (p - 1) no_tables_sound no_tables_sound;
               told_is = refl;
               long = length-map config.peers (λ _. no_tables);
