@@ -40,12 +40,15 @@ use Rattle.spk_model.specs.Routing.{candidate, local_candidates, candidates, dec
 use Rattle.spk_model.specs.Routing.{decide, advertise, export_best, export, settle, settle_all, export_all}
 use Rattle.spk_model.specs.Routing.{announce_one, without_all}
 use Rattle.spk_model.specs.Routing.{drop_all, receive_route, receive_if, announce, withdraw, routes_of, update, lose}
-use Rattle.spk_model.specs.Turning.{Speaker, Turn, gives, routed, with_routes, put, rest_of, control, act, react, refuse}
+use Rattle.spk_model.specs.Turning.{Speaker, Turn, gives, routed, with_routes, put, rest_of, control, act, react}
+use Rattle.spk_model.specs.Turning.{refuse}
 use Rattle.spk_model.specs.Turning.{session_at, judged_open, open_in, taken_update, judged_update, update_in}
-use Rattle.spk_model.specs.Turning.{message_in, front_in, when_true, take_turns, octets_in, state_of, set_wait, wait_of}
+use Rattle.spk_model.specs.Turning.{message_in, front_in, when_true, take_turns, octets_in, state_of, set_wait}
+use Rattle.spk_model.specs.Turning.{wait_of}
 use Rattle.spk_model.specs.Turning.{set_session, set_rest, set_clock, tables_at, Due, first_due, stimulus_of}
 use Rattle.spk_model.specs.Turning.{fire_in_time, fire_first, time_turns, time_to, within, less, is_spent, put_rest}
-use Rattle.spk_model.specs.Turning.{formed_rest, form_next, rest_or_form, unless_spent, emit_turns, emit, known_prefixes}
+use Rattle.spk_model.specs.Turning.{formed_rest, form_next, rest_or_form, unless_spent, emit_turns, emit}
+use Rattle.spk_model.specs.Turning.{known_prefixes}
 use Rattle.spk_model.specs.Turning.{turn, before, event, history, start_of}
 use Rattle.spk_model.specs.Laws.{is_sent, rule_free, untold, without_telling}
 

@@ -49,11 +49,13 @@ use Rattle.spk_model.specs.Routing.{candidates, decide, decided, drop_all, expor
 use Rattle.spk_model.specs.Routing.{no_tables, ran_all, receive_if, receive_route, routes_of, set_adv, set_best}
 use Rattle.spk_model.specs.Routing.{set_routes, set_tables, settle, settle_all, update, withdraw}
 use Rattle.spk_model.specs.Turning.{Due, Speaker, Turn, act, before, control, emit, emit_turns}
-use Rattle.spk_model.specs.Turning.{event, fire_first, fire_in_time, first_due, form_next, formed_rest, front_in, gives}
+use Rattle.spk_model.specs.Turning.{event, fire_first, fire_in_time, first_due, form_next, formed_rest, front_in}
+use Rattle.spk_model.specs.Turning.{gives}
 use Rattle.spk_model.specs.Turning.{history, is_spent, judged_open, judged_update, known_prefixes, less, message_in}
 use Rattle.spk_model.specs.Turning.{octets_in, open_in, put_rest, react, refuse, rest_of, rest_or_form, routed}
 use Rattle.spk_model.specs.Turning.{session_at, set_clock, set_session, set_wait, start_of, state_of}
-use Rattle.spk_model.specs.Turning.{stimulus_of, tables_at, take_turns, taken_update, time_to, time_turns, trace, turn}
+use Rattle.spk_model.specs.Turning.{stimulus_of, tables_at, take_turns, taken_update, time_to, time_turns, trace}
+use Rattle.spk_model.specs.Turning.{turn}
 use Rattle.spk_model.specs.Turning.{unless_spent, update_in, wait_of, when_true, with_routes}
 use Rattle.spk_model.specs.Laws.{AllFail, AreAlike, AreFaults, IsReached, all_fail, contained_step}
 use Rattle.spk_model.specs.Laws.{containment, faults_elsewhere, has_point, stilled, without_faults}

@@ -158,7 +158,8 @@ tells-update : (bytes : List ℕ) (table : Sections) (gone fresh : List Prefix) 
     → AllByRecursion IsPrefix gone → AllByRecursion IsPrefix fresh
     → length (flat_map prefix_octets gone) + length section + length (flat_map prefix_octets fresh) ≤ 4073
     → Tells bytes table
-    → Tells (bytes ++ update_message (update_with gone section fresh)) (with_each (without_each table gone) fresh section)
+    → Tells (bytes ++ update_message (update_with gone section fresh))
+    (with_each (without_each table gone) fresh section)
 tells-update bytes table gone fresh section are_gone are_fresh short t =
     let u = update_with gone section fresh in
     let body = update_body u in

@@ -1,5 +1,5 @@
--- What a step of the routes keeps: prefixes are prefixes, what a peer is advertised is short enough to be sent, and what
--- a peer was told does not change.
+-- What a step of the routes keeps: prefixes are prefixes, what a peer is advertised is short enough to be sent, and
+-- what a peer was told does not change.
 use Rattle.std.proofs.Common.{◌≡◌, ◌≢◌, refl, sym, ◌∙◌, subst, inl, inr, ℕ, ◌-◌, ◌≤◌, Bool, true, false}
 use Rattle.std.proofs.Common.{List, [], ◌∷◌, ◌++◌, length, Option, Some, None, fold, filter, get_or, nat_le}
 use Rattle.std.proofs.lemmas.Bool.{cases_Bool, leb-true, ltb-true, ltb-false, eqb-true, eqb-false}

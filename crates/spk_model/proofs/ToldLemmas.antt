@@ -1,6 +1,7 @@
 -- What a peer was sent, with what is left of a message, tells it what it was told.
 use Rattle.std.proofs.Common.{◌≡◌, refl, sym, ap, ◌∙◌, subst, inl, inr, ℕ, zero, suc, ◌+◌, ◌*◌, ◌-◌, ◌<◌, ◌≤◌, arith}
-use Rattle.std.proofs.Common.{Bool, true, false, List, [], ◌∷◌, ◌++◌, append_assoc, length, take, drop, Option, Some, None}
+use Rattle.std.proofs.Common.{Bool, true, false, List, [], ◌∷◌, ◌++◌, append_assoc, length, take, drop, Option}
+use Rattle.std.proofs.Common.{Some, None}
 use Rattle.std.proofs.Common.{fold, map, get_or}
 use Rattle.std.proofs.lemmas.Bool.{and_parts, cases_Bool, eq-eqb, eqb-false, eqb-true, ltb-false}
 use Rattle.std.proofs.lemmas.Grind.{flat_map-append}
@@ -38,18 +39,24 @@ use Rattle.spk_model.specs.declared.host.Setup.{Setup}
 use Rattle.spk_model.specs.Sources.{entry_of, session_of, is_established, is_up, is_wide}
 use Rattle.spk_model.specs.Routing.{Routed, Tables, Chosen, no_tables, at_tables, tables_of, set_tables, lose}
 use Rattle.spk_model.specs.Routing.{export_all, settle_all, update}
-use Rattle.spk_model.specs.Turning.{Speaker, Turn, gives, put, routed, with_routes, rest_of, set_rest, wait_of, set_wait}
-use Rattle.spk_model.specs.Turning.{session_at, set_session, set_clock, state_of, tables_at, control, act, react, refuse}
-use Rattle.spk_model.specs.Turning.{judged_open, open_in, taken_update, judged_update, update_in, message_in, front_in}
-use Rattle.spk_model.specs.Turning.{when_true, take_turns, octets_in, Due, earlier_due, due_of, first_due, stimulus_of}
+use Rattle.spk_model.specs.Turning.{Speaker, Turn, gives, put, routed, with_routes, rest_of, set_rest, wait_of}
+use Rattle.spk_model.specs.Turning.{set_wait}
+use Rattle.spk_model.specs.Turning.{session_at, set_session, set_clock, state_of, tables_at, control, act, react}
+use Rattle.spk_model.specs.Turning.{refuse}
+use Rattle.spk_model.specs.Turning.{judged_open, open_in, taken_update, judged_update, update_in, message_in}
+use Rattle.spk_model.specs.Turning.{front_in}
+use Rattle.spk_model.specs.Turning.{when_true, take_turns, octets_in, Due, earlier_due, due_of, first_due}
+use Rattle.spk_model.specs.Turning.{stimulus_of}
 use Rattle.spk_model.specs.Turning.{fire_in_time, fire_first, time_turns, time_to, within, less, is_spent, put_rest}
-use Rattle.spk_model.specs.Turning.{formed_rest, form_next, rest_or_form, unless_spent, emit_turns, emit, known_prefixes}
+use Rattle.spk_model.specs.Turning.{formed_rest, form_next, rest_or_form, unless_spent, emit_turns, emit}
+use Rattle.spk_model.specs.Turning.{known_prefixes}
 use Rattle.spk_model.specs.Turning.{turn, before, event, history, start_of}
 use Rattle.spk_model.specs.Readers.{AreConfigured, IsPeer}
 use Rattle.spk_model.specs.Laws.{IsSetup, IsInRange, AreEvents, IsReached, octets_to, state_in, is_connect, begins}
 use Rattle.spk_model.specs.Laws.{sent_since, heard_is_told, rest_in, told_is_advertised}
 use Rattle.spk_model.proofs.AdvertisedLemmas.{told-adv}
-use Rattle.spk_model.proofs.HeardLemmas.{AllByRecursion-All, AreTold, IsShort, Tells, all-append, all-keys, all-weaken, form_tells}
+use Rattle.spk_model.proofs.HeardLemmas.{AllByRecursion-All, AreTold, IsShort, Tells, all-append, all-keys}
+use Rattle.spk_model.proofs.HeardLemmas.{all-weaken, form_tells}
 use Rattle.spk_model.proofs.HeardLemmas.{heard-tells}
 use Rattle.spk_model.proofs.HeardLemmas.{tells-keepalive, tells-nil, tells-open}
 use Rattle.spk_model.proofs.OthersLemmas.{Kept, Seen, not_near, react-unseen}
@@ -1030,7 +1037,9 @@ module _ (setup : Setup) (q : ℕ) where
         record {
           kept = record {
             routes = record {
-              best = best_are _ config.networks [] (AllByRecursion-All IsPrefix config.networks (accepted.0).networks) tt;
+              best =
+                  best_are _ config.networks []
+                  (AllByRecursion-All IsPrefix config.networks (accepted.0).networks) tt;
               each = λ p. map_all AreSound no_tables no_tables config.peers (p - 1) no_tables_sound no_tables_sound;
               told_is = refl;
               long = length-map config.peers (λ _. no_tables);

@@ -46,7 +46,8 @@ pub fn containment()
     ensures { containment }
 {}
 
-/// An export that is encoded again, with the same maps and all faults noted, gives the same section and changes nothing.
+/// An export that is encoded again, with the same maps and all faults noted, gives the same section and changes
+/// nothing.
 pub fn encode_again()
     ensures { encode_again }
 {}
