@@ -55,11 +55,11 @@ use Rattle.spk_model.specs.Laws.{own_event, is_of, octets_to}
 
 -- ---- numbers of two peers
 
-not_same : (q p : ℕ) → q ≢ p → (q == p) ≡ false
+pub not_same : (q p : ℕ) → q ≢ p → (q == p) ≡ false
 not_same q p differ =
     elim (cases_Bool (q == p)) [ inl e ↦ absurd (differ (eqb-true q p e)) | inr e ↦ e ]
 
-not_near : (q p : ℕ) → 1 ≤ q → 1 ≤ p → q ≢ p → q - 1 ≢ p - 1
+pub not_near : (q p : ℕ) → 1 ≤ q → 1 ≤ p → q ≢ p → q - 1 ≢ p - 1
 not_near q p some_q some_p differ e = differ (omega (arith, e, some_q, some_p))
 
 -- ---- tables
@@ -69,11 +69,11 @@ pub record Kept : Type 0 where
   pub adjin : Routes
   pub told : Sections
 
-abbrev kept_of : Tables → Kept
+abbrev pub kept_of : Tables → Kept
 kept_of t = record { adjin = t.adjin; told = t.told }
 
 -- one element of a list is changed, and a part of it stays
-part_kept : {A B : Type 0} (f : A → B) (xs : List A) (i j : ℕ) (x d : A) → f x ≡ f (get_or xs i d)
+pub part_kept : {A B : Type 0} (f : A → B) (xs : List A) (i j : ℕ) (x d : A) → f x ≡ f (get_or xs i d)
     → f (get_or (set xs i x) j d) ≡ f (get_or xs j d)
 part_kept f xs i j x d same =
     elim (cases_Bool (i == j)) [
@@ -92,11 +92,11 @@ part_kept f xs i j x d same =
 
 module _ (q : ℕ) where
   -- what is left of the peer q
-  abbrev left_in : Routed → Kept
+  abbrev pub left_in : Routed → Kept
   left_in t = kept_of (at_tables t q)
 
   -- a step that leaves it
-  abbrev IsSafe : (Routed → Routed) → Type 0
+  abbrev pub IsSafe : (Routed → Routed) → Type 0
   IsSafe f = (t : Routed) → left_in (f t) ≡ left_in t
 
   fold-safe : {A : Type 0} (f : Routed → A → Routed) → ((a : A) → IsSafe (λ t. f t a)) → (xs : List A)
@@ -148,11 +148,11 @@ module _ (q : ℕ) where
         (decide setup sessions t prefix)
         ∙ decide-safe prefix t
 
-    settle_all-safe : (ps : List Prefix) → IsSafe (λ t. settle_all setup sessions t ps)
+    pub settle_all-safe : (ps : List Prefix) → IsSafe (λ t. settle_all setup sessions t ps)
     unfolding settle_all
     settle_all-safe ps t = fold-safe (settle setup sessions) settle-safe (set_of prefix_cmp ps) t
 
-    export_all-safe : (p : ℕ) → IsSafe (λ t. export_all setup sessions t p)
+    pub export_all-safe : (p : ℕ) → IsSafe (λ t. export_all setup sessions t p)
     unfolding export_all
     export_all-safe p t = fold-safe (λ u prefix. export setup sessions prefix u p) (λ prefix. export-safe prefix p)
         (keys_of (t.routing).best) t
@@ -240,7 +240,7 @@ pub record Seen : Type 0 where
   pub octets : List ℕ
 
 module _ (q : ℕ) where
-  abbrev seen : Turn → Seen
+  abbrev pub seen : Turn → Seen
   seen t = record {
     session = session_at t q;
     rest = rest_of t q;
@@ -250,7 +250,7 @@ module _ (q : ℕ) where
   }
 
   -- a step that leaves it
-  abbrev IsUnseen : (Turn → Turn) → Type 0
+  abbrev pub IsUnseen : (Turn → Turn) → Type 0
   IsUnseen f = (t : Turn) → seen (f t) ≡ seen t
 
   fold-unseen : {A : Type 0} (f : Turn → A → Turn) → ((a : A) → IsUnseen (λ t. f t a)) → (xs : List A)
@@ -350,7 +350,7 @@ module _ (q : ℕ) where
         ∙ gives-unseen (went_down p ∷ []) refl t
     act-unseen extra acts.Close t = set_wait-unseen [] (set_rest t p []) ∙ set_rest-unseen [] t
 
-    react-unseen : (st : Stimulus) (extra : List ℕ) → IsUnseen (λ t. react setup t p st extra)
+    pub react-unseen : (st : Stimulus) (extra : List ℕ) → IsUnseen (λ t. react setup t p st extra)
     unfolding react
     react-unseen st extra t =
         let s = session_at t p in
@@ -485,7 +485,7 @@ module _ (q : ℕ) where
         (λ u. rest_or_form-unseen rule (λ v l. emit_turns rule turns v p l) (emit_turns-unseen rule turns) limit
         (nat_lt 0 (length (rest_of u p))) u) t
 
-    emit-unseen : (rule : Packing) (limit : Option ℕ) → IsUnseen (λ t. emit rule t p limit)
+    pub emit-unseen : (rule : Packing) (limit : Option ℕ) → IsUnseen (λ t. emit rule t p limit)
     unfolding emit
     emit-unseen rule limit t =
         let turns = 2 + 2 * length (pending (tables_at t p).adv (tables_at t p).told) in

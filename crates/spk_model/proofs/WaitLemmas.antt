@@ -92,7 +92,7 @@ module _ (setup : Setup) where
       ap (λ (u : Turn). fold (act setup p extra) u more) (set_wait-set_wait (set_rest t p []) p x [])
 
   -- acts leave the sessions, and the number of lists that wait
-  acts_keep : (p : ℕ) (extra : List ℕ) (todo : List Act) (t : Turn)
+  pub acts_keep : (p : ℕ) (extra : List ℕ) (todo : List Act) (t : Turn)
       → (((fold (act setup p extra) t todo).speaker).sessions ≡ (t.speaker).sessions)
       × (length ((fold (act setup p extra) t todo).speaker).waits ≡ length (t.speaker).waits)
   unfolding act control
