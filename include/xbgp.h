@@ -73,7 +73,8 @@ typedef unsigned long long xbgp_u64;
 #define XBGP_STACK_SIZE 512
 #define XBGP_HEAP_SIZE 8192
 #define XBGP_MAX_SECTION 4068 // of a section that is sent
-#define XBGP_MAX_ROUTE 4096   // of a route's canonical section, and of the write buffer
+#define XBGP_MAX_ROUTE 4096   // of a route's canonical section
+#define XBGP_MAX_BUFFER 4096  // of the write buffer
 #define XBGP_MAX_WRITES 64    // writes to maps in one chain
 
 // ---- helpers, by their numbers
