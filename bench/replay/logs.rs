@@ -1,8 +1,8 @@
-//! Writes the event log of a replay to standard output, the same at each run: `logs COUNT` one of that many UPDATEs from
-//! four peers, with a drain of each peer after every hundredth and at the end.
+//! Writes the event log of a replay to standard output, the same at each run: `logs COUNT` one of that many UPDATEs
+//! from four peers, with a drain of each peer after every hundredth and at the end.
 //!
-//! Each UPDATE comes from one of the peers and is about one of 4,096 prefixes: a withdrawal of it one time in four, else
-//! its announcement with a random ORIGIN and a short random AS_PATH. speaker.toml is the configuration that fits.
+//! Each UPDATE comes from one of the peers and is about one of 4,096 prefixes: a withdrawal of it one time in four,
+//! else its announcement with a random ORIGIN and a short random AS_PATH. speaker.toml is the configuration that fits.
 
 #[allow(dead_code)]
 #[path = "../common/making.rs"]

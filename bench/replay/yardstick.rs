@@ -1,11 +1,11 @@
-//! The yardstick of `xbgp replay listed CONFIG - LOG`: the same job in plain Rust, with the same text, for the logs that
-//! logs.rs makes.
+//! The yardstick of `xbgp replay listed CONFIG - LOG`: the same job in plain Rust, with the same text, for the logs
+//! that logs.rs makes. `yardstick runs CONFIG LOG` counts how often chains of programs run at each point.
 //!
 //! One map has all that is known of a prefix: each peer's route, the best of them, and what each peer is advertised and
-//! was told. So an event of a prefix costs one search of it. A route is kept as its canonical section with the parts that
-//! decide beside it; what goes to peers of one kind is made once and shared. An UPDATE is judged in full. What logs.rs
-//! never makes ends the program with status 70: sessions that close, timers, rests, AS numbers of four octets in a
-//! session, attributes beyond the first seven.
+//! was told. So an event of a prefix costs one search of it. A route is kept as its parts, AS numbers in four octets;
+//! what goes to peers of one kind is made once and shared. An UPDATE is judged in full. What logs.rs never makes ends
+//! the program with status 70: sessions that close, timers, rests, AS numbers of four octets in a session, attributes
+//! beyond the first seven.
 
 #[allow(dead_code)]
 #[path = "../common/reading.rs"]
@@ -273,6 +273,17 @@ struct Speaker {
     local_pref: u32,
     peers: Vec<Peer>,
     table: BTreeMap<Prefix, Entry>,
+    runs: Runs,
+}
+
+/// How often a chain of programs would run at each point, if none of them changed anything.
+#[derive(Default)]
+struct Runs {
+    receive: u64,
+    inbound: u64,
+    decision: u64,
+    outbound: u64,
+    encode: u64,
 }
 
 impl Speaker {
@@ -327,6 +338,8 @@ impl Speaker {
     /// Decides a prefix and exports it to the peers that are Established.
     fn settle(&mut self, prefix: Prefix, mut entry: Entry) {
         entry.best = self.best(&entry.routes);
+        let candidates = entry.routes.iter().flatten().count() as u64;
+        self.runs.decision += candidates.saturating_sub(1);
         let route = entry.best.and_then(|peer| entry.routes[peer].clone());
         let mut made: [Option<Rc<[u8]>>; 2] = [None, None];
         for peer in 0..self.peers.len() {
@@ -334,8 +347,10 @@ impl Speaker {
                 continue;
             }
             let kind = self.peers[peer].kind;
+            self.runs.outbound += u64::from(route.is_some());
             let section = match (&route, entry.best) {
                 (Some(route), Some(source)) if self.is_exported(source, peer) => {
+                    self.runs.encode += 1;
                     let made = &mut made[usize::from(kind == Kind::Internal)];
                     let section = made.get_or_insert_with(|| match kind {
                         Kind::External => self.external_section(route),
@@ -403,11 +418,13 @@ impl Speaker {
         let (hops, first) = measure_path(&route.path);
         route.hops = hops;
         route.neighbour = first.unwrap_or(self.peers[peer].asn);
+        self.runs.receive += 1;
         let accepted = !self.loops(&route.path) && route.next_hop != self.address.to_be_bytes();
         let route = accepted.then(|| Rc::new(route));
         while !announced.is_empty() {
             let (prefix, rest) = take_prefix(announced);
             announced = rest;
+            self.runs.inbound += 1;
             self.place(peer, prefix, route.clone());
         }
     }
@@ -669,6 +686,7 @@ fn configured(text: &str) -> Option<Speaker> {
         local_pref: 100,
         peers: Vec::new(),
         table: BTreeMap::new(),
+        runs: Runs::default(),
     };
     for line in text.lines() {
         let Some((key, value)) = line.split_once(" = ") else {
@@ -705,7 +723,8 @@ fn configured(text: &str) -> Option<Speaker> {
     Some(speaker)
 }
 
-fn replay(config: &str, log: &str, out: &mut Output) -> io::Result<()> {
+/// Plays the log, and returns the speaker after it.
+fn play(config: &str, log: &str, out: &mut Output) -> io::Result<Speaker> {
     let Some(mut speaker) = configured(&std::fs::read_to_string(config)?) else {
         unsupported("this configuration")
     };
@@ -714,18 +733,42 @@ fn replay(config: &str, log: &str, out: &mut Output) -> io::Result<()> {
     for line in log.split(|octet| *octet == b'\n') {
         play_line(&mut speaker, line, &mut room, out)?;
     }
-    speaker.print_tables(out)
+    Ok(speaker)
+}
+
+fn replay(config: &str, log: &str) -> io::Result<()> {
+    let mut out = Output::new();
+    play(config, log, &mut out)?.print_tables(&mut out)?;
+    out.flush()
+}
+
+/// In place of the tables, how often chains run at receive, inbound, decision, outbound and encode.
+fn count_runs(config: &str, log: &str) -> io::Result<()> {
+    let mut out = Output::new();
+    let runs = play(config, log, &mut out)?.runs;
+    let counts = [runs.receive, runs.inbound, runs.decision, runs.outbound, runs.encode];
+    for (i, count) in counts.into_iter().enumerate() {
+        if i > 0 {
+            out.text.push(b' ');
+        }
+        push_decimal(&mut out.text, count);
+    }
+    out.end_line()?;
+    out.flush()
 }
 
 fn main() -> ExitCode {
     let words: Vec<String> = std::env::args().skip(1).collect();
     let words: Vec<&str> = words.iter().map(String::as_str).collect();
-    let ["replay", "listed", config, "-", log] = words.as_slice() else {
-        eprintln!("usage: yardstick replay listed CONFIG - LOG");
-        return ExitCode::from(2);
+    let done = match words.as_slice() {
+        ["replay", "listed", config, "-", log] => replay(config, log),
+        ["runs", config, log] => count_runs(config, log),
+        _ => {
+            eprintln!("usage: yardstick replay listed CONFIG - LOG, or yardstick runs CONFIG LOG");
+            return ExitCode::from(2);
+        }
     };
-    let mut out = Output::new();
-    match replay(config, log, &mut out).and_then(|()| out.flush()) {
+    match done {
         Ok(()) => ExitCode::SUCCESS,
         Err(_) => ExitCode::FAILURE,
     }
