@@ -6,60 +6,16 @@
 //!
 //! Peak memory is the largest resident set, as the system counts it; it is never under this small program's own.
 
+#[allow(dead_code)] // processor time is for the measure of points
+mod running;
+
+use running::{median, run_once, Run};
 use std::env;
 use std::io;
-use std::process::{Command, ExitCode, Stdio};
-use std::time::{Duration, Instant};
+use std::process::ExitCode;
+use std::time::Duration;
 
 const REPEATS: usize = 5;
-
-/// What the system tells of a process that has ended, as far as it is read here (Linux, 64 bits).
-#[repr(C)]
-#[derive(Default)]
-struct Usage {
-    times: [i64; 4],
-    peak_kib: i64,
-    others: [i64; 13],
-}
-
-unsafe extern "C" {
-    fn wait4(pid: i32, status: *mut i32, options: i32, usage: *mut Usage) -> i32;
-}
-
-struct Run {
-    time: Duration,
-    peak_kib: i64,
-}
-
-fn run_once(program: &str, words: &[&str]) -> io::Result<Run> {
-    let mut command = Command::new(program);
-    command.args(words);
-    command.stdin(Stdio::null()).stdout(Stdio::null());
-    let (mut status, mut usage) = (0, Usage::default());
-    let began = Instant::now();
-    let child = command.spawn()?;
-    let pid = child.id() as i32;
-    // The process was started just now and is waited for here alone.
-    let ended = unsafe { wait4(pid, &mut status, 0, &mut usage) };
-    let time = began.elapsed();
-    if ended != pid {
-        return Err(io::Error::last_os_error());
-    }
-    if status != 0 {
-        return Err(io::Error::other(format!(
-            "{program} ended with {status:#x}"
-        )));
-    }
-    Ok(Run {
-        time,
-        peak_kib: usage.peak_kib,
-    })
-}
-
-fn median(mut times: Vec<Duration>) -> Duration {
-    times.sort();
-    times[times.len() / 2]
-}
 
 /// The times of the rounds of one program, and its peak memory.
 #[derive(Default)]

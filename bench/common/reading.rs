@@ -187,6 +187,13 @@ pub struct Output {
 const PAGE: usize = 65_536;
 
 impl Output {
+    pub fn new() -> Self {
+        Output {
+            text: Vec::with_capacity(2 * PAGE),
+            out: io::stdout().lock(),
+        }
+    }
+
     /// To be called after each line: writes the text that has come together, if it is a page.
     pub fn end_line(&mut self) -> io::Result<()> {
         self.text.push(b'\n');
@@ -196,7 +203,8 @@ impl Output {
         self.flush()
     }
 
-    fn flush(&mut self) -> io::Result<()> {
+    /// Writes the text that has come together.
+    pub fn flush(&mut self) -> io::Result<()> {
         self.out.write_all(&self.text)?;
         self.text.clear();
         self.out.flush()
@@ -267,10 +275,7 @@ pub fn run(commands: &[Command<'_>]) -> ExitCode {
     // A word that isn't UTF-8 is not a word of a command.
     let words: Result<Vec<String>, OsString> =
         env::args_os().skip(1).map(OsString::into_string).collect();
-    let mut out = Output {
-        text: Vec::with_capacity(2 * PAGE),
-        out: io::stdout().lock(),
-    };
+    let mut out = Output::new();
     let status = answer(&words.unwrap_or_default(), commands, &mut out)
         .and_then(|status| out.flush().map(|()| status))
         .unwrap_or(4);
