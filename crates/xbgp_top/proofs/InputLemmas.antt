@@ -1,21 +1,10 @@
 -- Steps over a shelf: what was read, with one piece more, and one step after another.
-use Rattle.std.proofs.Common.{◌≡◌, ◌≢◌, ◌⊎◌, ℕ, ◌+◌, ◌<◌, ◌≤◌, List, [], ◌++◌, length, take, drop, Option, Some, None}
-use Rattle.std.proofs.Common.{MatchOption, Ok, Err, IsNone, Bool, true, false, nat_lt, if◌then◌else◌, refl, sym, ◌∙◌}
-use Rattle.std.proofs.Common.{ap, subst, inl, inr, arith, length-append}
-use Rattle.std.specs.Result.{IfErr}
-use Rattle.std.proofs.lemmas.Bool.{lt-ltb, le-ltb}
+use Rattle.std.proofs.Common.{◌≡◌, ℕ, ◌+◌, List, [], ◌++◌, length, take, drop, Option, Some, None, MatchOption, Bool}
+use Rattle.std.proofs.Common.{true, if◌then◌else◌, sym, ◌∙◌, ap, subst, arith, length-append}
 use Rattle.std.proofs.lemmas.List.{length-take-le}
 use Rattle.std.proofs.Math.Seq.{take-add}
-use Rattle.xb_io.specs.Causes.{Files, file_named, Reads, ReadsPart, FaultsRose, IsMissing}
-use Rattle.xbgp_top.specs.declared.input.TheConstants.{INPUT_LIMIT}
-use Rattle.xbgp_top.specs.declared.input.Unread.{Unread}
-use Rattle.xbgp_top.specs.declared.input.Unread.TheVariants.{Long, Fault}
-use Rattle.xbgp_top.specs.declared.input.Unread.TheVariants as reasons
-use Rattle.xbgp_top.specs.declared.status.File.{File}
-use Rattle.xbgp_top.specs.declared.status.Status.{Status}
-use Rattle.xbgp_top.specs.declared.status.Status.TheVariants.{ReadFault, WriteFault, Usage, OutOfMemory, TooLong}
-use Rattle.xbgp_top.specs.Answers.{Outcome, ◌>>=◌, input, within_limit}
-use Rattle.xbgp_top.specs.Inputs.{Gives, IsFront, IsLong, IsUnread, IsWhole, Obtains, unread_status}
+use Rattle.xb_io.specs.Causes.{Files, file_named, Reads, ReadsPart}
+use Rattle.xbgp_top.specs.Inputs.{IsFront}
 
 found_more : (found : Option (List ℕ)) (front buf : List ℕ) (n : ℕ)
     → MatchOption found (front ≡ []) (λ octets. front ≡ take (length front) octets)

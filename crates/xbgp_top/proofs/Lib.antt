@@ -3,3 +3,4 @@ mod OutputLemmas
 mod HearLemmas
 mod JudgeLemmas
 mod TopLemmas
+mod ReplayLemmas

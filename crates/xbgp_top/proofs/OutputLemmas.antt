@@ -5,7 +5,7 @@ use Rattle.std.specs.Result.{IsErrAnd}
 use Rattle.std.proofs.lemmas.List.{take_at}
 use Rattle.std.proofs.Math.Seq.{take-length}
 use Rattle.xb_io.specs.Causes.{TookFront, with_text}
-use Rattle.xb_io.specs.Pages.{Gathered, Gathers, Puts, Stops}
+use Rattle.xb_io.specs.Pages.{Gathered, Puts, Stops}
 use Rattle.xb_io.specs.declared.page.Halt.{Halt}
 use Rattle.xb_io.specs.declared.page.Halt.TheVariants.{OutOfMemory}
 use Rattle.xb_io.specs.declared.page.Halt.TheVariants as halts

@@ -1,4 +1,4 @@
-use Rattle.std.proofs.Common.{rules, ◌≡◌, ◌∷◌, List, ℕ, ◌∙◌, ap}
+use Rattle.std.proofs.Common.{rules, ◌≡◌, ◌∷◌, ◌∙◌, ap}
 use Rattle.xb_io.proofs.PageLemmas.{gathers_stopped}
 use Rattle.xb_io.specs.declared.page.Halt.TheVariants.{OutOfMemory}
 use Rattle.xbgp_top.specs.Answers.{heard_line, table_lines}

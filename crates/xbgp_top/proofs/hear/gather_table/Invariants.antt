@@ -1,4 +1,4 @@
-use Rattle.std.proofs.Common.{◌≡◌, ◌++◌, length}
+use Rattle.std.proofs.Common.{◌++◌, length}
 use Rattle.xb_io.specs.Pages.{Gathered}
 use Rattle.xbgp_top.specs.Answers.{table_lines}
 use Rattle.xbgp_top.proofs.hear.gather_table.Given as goal
