@@ -1,4 +1,4 @@
-use Rattle.xbgp_top.proofs.ReplayLemmas.{explains_replay}
+use Rattle.xbgp_top.proofs.TopLemmas.{explains_replay}
 use Rattle.xbgp_top.proofs.entry.replay_files.Goals as goal
 
 pub returns-clause-explains : goal.returns-clause-explains

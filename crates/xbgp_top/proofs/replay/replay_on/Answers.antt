@@ -2,7 +2,7 @@ use Rattle.std.proofs.Common.{ap}
 use Rattle.xb_io.specs.Causes.{Files}
 use Rattle.spk_model.specs.declared.host.Setup.{Setup}
 use Rattle.xbgp_top.specs.Answers.{Outcome, replay_answer, setup_input}
-use Rattle.xbgp_top.proofs.ReplayLemmas.{explains_stopped}
+use Rattle.xbgp_top.proofs.StopLemmas.{explains_stopped}
 use Rattle.xbgp_top.proofs.replay.replay_on.Goals as goal
 
 pub returns-in-Err-clause-explains : goal.returns-in-Err-clause-explains

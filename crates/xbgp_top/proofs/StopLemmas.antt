@@ -1,16 +1,20 @@
--- How a setup that was not read, and the replay of a log, make a run.
+-- How a run ends at a step over a shelf that gave no value.
 use Rattle.std.proofs.Common.{◌≡◌, ◌≢◌, ◌⊎◌, ℕ, List, [], Option, Some, None, Err}
 use Rattle.std.proofs.Common.{refl, sym, ◌∙◌, ap, subst, inl, inr, arith}
 use Rattle.std.proofs.lemmas.List.{take_all}
 use Rattle.xb_io.specs.Causes.{Files, FaultsRose, TookFront, with_text}
-use Rattle.xb_domain.specs.declared.output.Packing.TheVariants.{Sorted}
 use Rattle.xbgp_top.specs.declared.status.Status.{Status}
 use Rattle.xbgp_top.specs.declared.status.Status.TheVariants.{ReadFault, WriteFault, OutOfMemory}
-use Rattle.xbgp_top.specs.Answers.{Answer, Outcome, command_answer, ended, fault_text, replay_answer, setup_input}
-use Rattle.xbgp_top.specs.Commands.{replay}
+use Rattle.xbgp_top.specs.Answers.{Answer, Outcome, ended, fault_text}
 use Rattle.xbgp_top.specs.Inputs.{Obtains}
 use Rattle.xbgp_top.specs.Outputs.{Writes}
 use Rattle.xbgp_top.specs.Top.{Explains, IsAnswered, SaysMissing}
+
+-- what took no text took a front of any text
+pub front_of_nothing : (before now : Option (List ℕ)) (text : List ℕ) → TookFront before now []
+    → TookFront before now text
+front_of_nothing before now text front =
+    (0, front.1 ∙ ap (with_text before) (take_all front.0 [] (omega arith)))
 
 -- how a run ends
 module _ {S K : Type 0} (held : S → Option Files) (reads : S → ℕ) (took : K → Option (List ℕ)) (writes : K → ℕ)
@@ -46,11 +50,13 @@ module _ {S K : Type 0} (held : S → Option Files) (reads : S → ℕ) (took : 
         front = λ files e.
             elim (o.told files e) as (λ _. TookFront (took sink_old) (took sink_new) (told files).text) [
               | inl gives ↦ elim gives as (λ _. TookFront (took sink_old) (took sink_new) (told files).text) [
-                | inl none ↦ nothing (told files).text (no_line OutOfMemory none w.front)
+                | inl none ↦ front_of_nothing (took sink_old) (took sink_new) (told files).text
+                    (no_line OutOfMemory none w.front)
                 | inr is ↦ subst (λ (a : Answer). TookFront (took sink_old) (took sink_new) a.text)
                     (sym (as_told files is)) w.front
               ]
-              | inr read ↦ nothing (told files).text (no_line ReadFault (cc read.0) w.front)
+              | inr read ↦ front_of_nothing (took sink_old) (took sink_new) (told files).text
+                  (no_line ReadFault (cc read.0) w.front)
             ];
         read_cause = λ fault.
             let why_is : why ≡ ReadFault = elim (w.only) as (λ _. why ≡ ReadFault) [
@@ -72,10 +78,6 @@ module _ {S K : Type 0} (held : S → Option Files) (reads : S → ℕ) (took : 
           → TookFront (took sink_old) (took sink_new) (fault_text s)
       no_line s is front = subst (λ (t : Status). TookFront (took sink_old) (took sink_new) (fault_text t)) is front
 
-      nothing : (text : List ℕ) → TookFront (took sink_old) (took sink_new) []
-          → TookFront (took sink_old) (took sink_new) text
-      nothing text front = (0, front.1 ∙ ap (with_text (took sink_old)) (take_all front.0 [] (omega arith)))
-
       read_fault : why ≡ ReadFault → (h : Option Files) → held shelf_old ≡ h
           → FaultsRose (reads shelf_old) (reads shelf_new) ⊎ SaysMissing h told
       read_fault is None e = inl (o.cause e (ap Err is))
@@ -88,12 +90,3 @@ module _ {S K : Type 0} (held : S → Option Files) (reads : S → ℕ) (took : 
             ]
             | inr read ↦ inl read.1
           ]
-
-  -- the replay on a speaker that packs by order is the command's
-  pub explains_replay : (config manifest log : List ℕ)
-      → Explains held reads took writes shelf_old shelf_new sink_old sink_new
-      (λ files. replay_answer Sorted (setup_input config manifest files) log files) status
-      → Explains held reads took writes shelf_old shelf_new sink_old sink_new
-      (command_answer (replay config manifest log)) status
-  unfolding command_answer
-  explains_replay config manifest log e = e
