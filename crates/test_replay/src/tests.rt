@@ -74,12 +74,7 @@ fn log_of(alloc: Global, row: &Row) -> Result<String, AllocError> {
 }
 
 // A log gives the report of the row, which may have lines of maps and faults besides.
-fn expect(
-    rt: &(impl AllocGlobal + Abort),
-    row: &Row,
-    log: &str,
-    noted: &str,
-) -> Result<(), Fail> {
+fn expect(rt: &(impl AllocGlobal + Abort), row: &Row, log: &str, noted: &str) -> Result<(), Fail> {
     let alloc = rt.alloc();
     let mut report = joined(alloc, &REPORTED_UP, row.up, row.report, noted)?;
     report.push_str(END)?;

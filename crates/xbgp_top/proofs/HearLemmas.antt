@@ -12,5 +12,5 @@ pub heard_outcome-ok : (octets : List ℕ) (table : Sections) → heard octets �
     → ended (heard_outcome octets) ≡ answered Done (heard_lines table ++ end_line)
 heard_outcome-ok octets table e =
     let by : Result Sections ℕ → Outcome (List ℕ) = λ r. elim r as (λ x. Outcome (List ℕ))
-        [ Ok t ↦ Ok (heard_lines t ++ end_line) | Err at ↦ Err (BadStream at) ] in
+    [ Ok t ↦ Ok (heard_lines t ++ end_line) | Err at ↦ Err (BadStream at) ] in
     ap (λ (r : Result Sections ℕ). ended (by r)) e

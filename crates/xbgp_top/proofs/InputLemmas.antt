@@ -10,11 +10,11 @@ found_more : (found : Option (List ℕ)) (front buf : List ℕ) (n : ℕ)
     → MatchOption found (front ≡ []) (λ octets. front ≡ take (length front) octets)
     → MatchOption found ⊥ (λ octets. ReadsPart octets (length front) buf n)
     → MatchOption found (front ++ take n buf ≡ []) (λ octets. front ++ take n buf ≡ take (length (front ++ take n buf))
-        octets)
+    octets)
 found_more None front buf n so_far reads = absurd reads
 found_more (Some octets) front buf n so_far reads =
     let size : length (front ++ take n buf) ≡ length front + n = omega
-        (arith, length-append front (take n buf), length-take-le n buf reads.fits) in
+    (arith, length-append front (take n buf), length-take-le n buf reads.fits) in
     let joined : front ++ take n buf ≡ take (length front) octets ++ take n (drop (length front) octets) =
     ap (λ (l : List ℕ). l ++ take n buf) so_far ∙ ap (λ (l : List ℕ). take (length front) octets ++ l) reads.part in
     joined ∙ sym (take-add (length front) n octets) ∙ ap (λ (k : ℕ). take k octets) (sym size)
@@ -31,6 +31,6 @@ pub IsFront-append : (held first : Option Files) (name front buf new : List ℕ)
 IsFront-append held first name front buf new n len ok same len_is so_far reads is_ok new_is =
     let reads_then : Reads first name (length front) buf n =
     subst (λ (k : ℕ). Reads first name k buf n) len_is
-        (subst (λ (h : Option Files). Reads h name len buf n) same reads) in
+    (subst (λ (h : Option Files). Reads h name len buf n) same reads) in
     let longer : new ≡ front ++ take n buf = rw is_ok at new_is in
     rw longer (read_more first name front buf n so_far reads_then)

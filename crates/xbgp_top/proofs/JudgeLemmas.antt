@@ -29,7 +29,7 @@ rest_of_walk at [] (b ∷ rest) =
     ap Some here ∙ ap (λ k. if k then None else Some (at + 0)) (sym (eqb-suc-zero (length rest)))
 rest_of_walk at (m ∷ items) rest =
     let end : at + length m + length (concat items) ≡ at + length (m ++ concat items) = omega
-        (arith, length-append m (concat items)) in
+    (arith, length-append m (concat items)) in
     rest_of_walk (at + length m) items rest ∙ ap (ends_at rest) end
 
 pub first_rest : (s : List ℕ) → rest_of (messages_from 0 s) ≡ rest_offset s
@@ -62,5 +62,5 @@ pub judge_outcome-none : (w : ℕ) (octets : List ℕ) → rest_offset octets �
     → ended (judge_outcome w octets) ≡ answered Done (judge_lines w octets ++ end_line)
 judge_outcome-none w octets e =
     let by : Option ℕ → Outcome (List ℕ) = λ o. elim o as (λ x. Outcome (List ℕ))
-        [ None ↦ Ok (judge_lines w octets ++ end_line) | Some at ↦ Err (BadStream at) ] in
+    [ None ↦ Ok (judge_lines w octets ++ end_line) | Some at ↦ Err (BadStream at) ] in
     ap (λ (o : Option ℕ). ended (by o)) e

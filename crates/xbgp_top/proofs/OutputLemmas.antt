@@ -27,12 +27,12 @@ module _ {K : Type 0} (took : K → Option (List ℕ)) (faults : K → ℕ) wher
   -- the gathering of the next line, which was shown, ended early
   pub stops_shown : (old mid new : K) (whole page shown line lines rest : List ℕ) (halt : Halt) → shown ≡ line
       → lines ≡ line ++ rest
-      → Gathered took faults old mid whole page lines → Stops took faults mid new (page ++ shown) halt → Stops took
-          faults old new whole halt
+      → Gathered took faults old mid whole page lines → Stops took faults mid new (page ++ shown) halt
+      → Stops took faults old new whole halt
   stops_shown old mid new whole page shown line lines rest halt same is g s =
       stops_then took faults old mid new whole page line rest halt
       (subst (λ l. Gathered took faults old mid whole page l) is g)
-          (subst (λ l. Stops took faults mid new (page ++ l) halt) same s)
+      (subst (λ l. Stops took faults mid new (page ++ l) halt) same s)
 
   -- a call that hands an error on by `?` ends as that error says
   pub puts_stopped : (old new : K) (text : List ℕ) (halt : Halt) (result : Result (Unit {0}) Halt)
@@ -42,11 +42,11 @@ module _ {K : Type 0} (took : K → Option (List ℕ)) (faults : K → ℕ) wher
       stops
 
   -- the gathering of lines on an empty page ended early, and no end follows
-  pub stops_showns : (old new : K) (first lines end : List ℕ) (halt : Halt) → first ≡ []
+  pub stops_lines : (old new : K) (first lines end : List ℕ) (halt : Halt) → first ≡ []
       → Stops took faults old new (first ++ lines) halt → Stops took faults old new (lines ++ end) halt
-  stops_showns old new first lines end halt empty s =
+  stops_lines old new first lines end halt empty s =
       stops_append took faults old new [] lines end halt
-          (subst (λ f. Stops took faults old new (f ++ lines) halt) empty s)
+      (subst (λ f. Stops took faults old new (f ++ lines) halt) empty s)
 
   -- lines were gathered on an empty page, and the gathering of the end ended early
   pub stops_end : (old mid new : K) (first lines page next end : List ℕ) (halt : Halt) → first ≡ []
@@ -54,19 +54,19 @@ module _ {K : Type 0} (took : K → Option (List ℕ)) (faults : K → ℕ) wher
       → Stops took faults mid new (page ++ end) halt → Stops took faults old new (lines ++ end) halt
   stops_end old mid new first lines page next end halt empty g s =
       gathers_then took faults old mid new [] page next lines end (Err halt)
-          (subst (λ f. Gathered took faults old mid (f ++ lines) page []) empty g) s
+      (subst (λ f. Gathered took faults old mid (f ++ lines) page []) empty g) s
 
   -- lines and an end were gathered on an empty page, which was written
   pub puts_end : (old mid late new : K) (first lines page next shown end : List ℕ) (result : Result (Unit {0}) Halt)
       → first ≡ [] → Gathered took faults old mid (first ++ lines) page []
       → Gathered took faults mid late (page ++ end) next [] → shown ≡ next → Puts took faults late new shown result
-          → Puts took faults old new (lines ++ end) result
+      → Puts took faults old new (lines ++ end) result
   puts_end old mid late new first lines page next shown end result empty g h same p =
       let all : Gathered took faults old late (lines ++ end) next [] =
       gathers_then took faults old mid late [] page next lines end (Ok tt)
-          (subst (λ f. Gathered took faults old mid (f ++ lines) page []) empty g) h in
+      (subst (λ f. Gathered took faults old mid (f ++ lines) page []) empty g) h in
       puts_gathered took faults old late new [] (lines ++ end) next result refl all
-          (subst (λ t. Puts took faults late new t result) same p)
+      (subst (λ t. Puts took faults late new t result) same p)
 
   -- a text was written, or that ended early, and the status says which
   pub writes_text : (old new : K) (text : List ℕ) (end : Result (Unit {0}) Halt) (answer : Answer) (status : Status)
@@ -74,7 +74,7 @@ module _ {K : Type 0} (took : K → Option (List ℕ)) (faults : K → ℕ) wher
       → Puts took faults old new text end → Writes answer took faults old new status
   writes_text old new text end answer status is e p =
       subst (λ (a : Answer). Writes a took faults old new status) (sym is)
-          (subst (λ (s : Status). Writes (answered Done text) took faults old new s) (sym e) (by end p))
+      (subst (λ (s : Status). Writes (answered Done text) took faults old new s) (sym e) (by end p))
     where
       all_of : took new ≡ with_text (took old) text → TookFront (took old) (took new) text
       all_of e = (length text, e ∙ ap (with_text (took old)) (sym (take-length text)))

@@ -21,8 +21,8 @@ use Rattle.xbgp_top.specs.Answers.{replay_answer, rest_offset, setup_input}
 use Rattle.xbgp_top.specs.Commands.{Command, check, command_of, on_file, replay}
 use Rattle.xbgp_top.specs.Inputs.{Gives, Obtains}
 use Rattle.xbgp_top.specs.Outputs.{Writes}
-use Rattle.xbgp_top.specs.Top.{Explains, IsAnswered, SaysMissing}
-use Rattle.xbgp_top.proofs.StopLemmas.{explains_stopped, front_of_nothing}
+use Rattle.xbgp_top.specs.Top.{Explains, IsAnswered}
+use Rattle.xbgp_top.proofs.StopLemmas.{explains_stopped}
 
 -- a status that says what is wrong with an input
 abbrev pub IsOfInput : Status → Type 0
@@ -34,16 +34,16 @@ IsOfInput status = Unit {0}
 of_input : (job : Job) (octets : List ℕ) → IfErr (job_outcome job octets) IsOfInput
 of_input Heard octets =
     elim (heard octets) as (λ r. IfErr (elim r as (λ x. Outcome (List ℕ))
-        [ Ok table ↦ Ok (heard_lines table ++ end_line) | Err at ↦ Err (BadStream at) ]) IsOfInput)
-        [ Ok table ↦ tt | Err at ↦ tt ]
+    [ Ok table ↦ Ok (heard_lines table ++ end_line) | Err at ↦ Err (BadStream at) ]) IsOfInput)
+    [ Ok table ↦ tt | Err at ↦ tt ]
 of_input (Judge wide) octets =
     elim (rest_offset octets) as (λ o. IfErr (elim o as (λ x. Outcome (List ℕ))
-        [ None ↦ Ok (judge_lines (width_of wide) octets ++ end_line) | Some at ↦ Err (BadStream at) ]) IsOfInput)
-        [ None ↦ tt | Some at ↦ tt ]
+    [ None ↦ Ok (judge_lines (width_of wide) octets ++ end_line) | Some at ↦ Err (BadStream at) ]) IsOfInput)
+    [ None ↦ tt | Some at ↦ tt ]
 of_input Exec octets =
     elim (load_fault no_helper octets) as (λ o. IfErr (elim o as (λ x. Outcome (List ℕ))
-        [ None ↦ Ok (line (end_words (alone octets)) ++ end_line) | Some fault ↦ Err (BadCode fault) ]) IsOfInput)
-        [ None ↦ tt | Some fault ↦ tt ]
+    [ None ↦ Ok (line (end_words (alone octets)) ++ end_line) | Some fault ↦ Err (BadCode fault) ]) IsOfInput)
+    [ None ↦ tt | Some fault ↦ tt ]
 
 -- what a step over the shelf gives, and what follows from it
 module _ {S : Type 0} (held : S → Option Files) (faults : S → ℕ) (old new : S) (want : Files → Outcome (List ℕ))
@@ -132,13 +132,13 @@ module _ {S K : Type 0} (held : S → Option Files) (reads : S → ℕ) (took : 
   -- a file was read, and what is asked about it was written
   pub explains_file : (job : Job) (name octets : List ℕ)
       → Obtains held reads shelf_old shelf_new (input Input name) (Ok octets)
-      → Writes (ended (job_outcome job octets)) took writes sink_old sink_new status → Explains held reads took writes
-          shelf_old shelf_new sink_old sink_new (command_answer (on_file job name)) status
+      → Writes (ended (job_outcome job octets)) took writes sink_old sink_new status
+      → Explains held reads took writes shelf_old shelf_new sink_old sink_new (command_answer (on_file job name)) status
   unfolding command_answer
   explains_file job name octets o w =
       explains_writes (file_outcome job name) (job_outcome job octets)
-          (obtains_then held reads shelf_old shelf_new (input Input name) (job_outcome job) octets (of_input job octets)
-          o) w
+      (obtains_then held reads shelf_old shelf_new (input Input name) (job_outcome job) octets (of_input job octets)
+      o) w
       (λ e. absurd (subst (λ (x : Outcome (List ℕ)). IfErr x IsOfInput) e (of_input job octets)))
 
   -- a file was not read, and that was written
@@ -157,7 +157,7 @@ module _ {S K : Type 0} (held : S → Option Files) (reads : S → ℕ) (took : 
       → Obtains held reads shelf_old shelf_new (check_outcome config manifest) got
       → Writes (ended got) took writes sink_old sink_new status → (got ≡ Err ReadFault → status ≡ ReadFault)
       → Explains held reads took writes shelf_old shelf_new sink_old sink_new (command_answer (check config manifest))
-          status
+      status
   unfolding command_answer
   explains_check config manifest got o w unread = explains_writes (check_outcome config manifest) got o w unread
 
@@ -173,14 +173,14 @@ module _ {S K : Type 0} (held : S → Option Files) (reads : S → ℕ) (took : 
   -- the words' command decides on the answer
   pub explains_command : (words : List (List ℕ)) (command : Command)
       → Explains held reads took writes shelf_old shelf_new sink_old sink_new (command_answer command) status
-      → command_of words ≡ Some command → Explains held reads took writes shelf_old shelf_new sink_old sink_new
-          (answer words) status
+      → command_of words ≡ Some command
+      → Explains held reads took writes shelf_old shelf_new sink_old sink_new (answer words) status
   unfolding answer
   explains_command words command e is =
       let by : Option Command → Files → Answer = λ o files. elim o as (λ x. Answer)
-          [ None ↦ ended (Err Usage) | Some c ↦ command_answer c files ] in
+      [ None ↦ ended (Err Usage) | Some c ↦ command_answer c files ] in
       subst (λ (o : Option Command). Explains held reads took writes shelf_old shelf_new sink_old sink_new (by o)
-          status) (sym is) e
+      status) (sym is) e
 
 -- the answer to words that are no command
 pub answer-none : (words : List (List ℕ)) (files : Files) → command_of words ≡ None
@@ -188,17 +188,20 @@ pub answer-none : (words : List (List ℕ)) (files : Files) → command_of words
 unfolding answer
 answer-none words files is =
     ap (λ (o : Option Command). elim o as (λ x. Answer) [ None ↦ ended (Err Usage) | Some c ↦ command_answer c files ])
-        is
+    is
 
 -- the line of Usage was written
 pub usage_written : {K : Type 0} (took : K → Option (List ℕ)) (faults : K → ℕ) (old new : K) (status : Status)
     → Writes (ended (Err Usage)) took faults old new status
-    → ¬ FaultsRose (faults old) (faults new) → status ≢ OutOfMemory → IsAnswered (ended (Err Usage)) (took old)
-        (took new) status
+    → ¬ FaultsRose (faults old) (faults new) → status ≢ OutOfMemory
+    → IsAnswered (ended (Err Usage)) (took old) (took new) status
 usage_written took faults old new status w no_write memory =
     let written : status ≢ WriteFault = λ fault. elim (w.fault fault) as (λ _. ⊥)
-        [ inl other ↦ cc other | inr rose ↦ no_write rose ] in (
-      elim (w.only) as (λ _. status ≡ Usage) [ inl s ↦ s | inr failed ↦ elim failed as (λ _. status ≡ Usage)
-          [ inl f ↦ absurd (written f) | inr m ↦ absurd (memory m) ] ],
+    [ inl other ↦ cc other | inr rose ↦ no_write rose ] in (
+      elim (w.only) as (λ _. status ≡ Usage) [
+        | inl s ↦ s
+        | inr failed ↦ elim failed as (λ _. status ≡ Usage)
+            [ inl f ↦ absurd (written f) | inr m ↦ absurd (memory m) ]
+      ],
       λ _. w.whole written memory,
     )

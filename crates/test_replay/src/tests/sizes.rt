@@ -73,7 +73,11 @@ fn a_section_over_its_limit_is_not_advertised(rt: HostRuntime) -> Result<(), Fai
         let report = report_of(rt.alloc(), long, &zeros)?;
         let (status, written) = replay(rt.alloc(), C, "", &log)?;
         assert_eq!(rt; status, Status::Done);
-        assert!(rt; written.as_slice() == report.as_bytes(), "with {} zeros", long.zeros);
+        assert!(rt;
+            written.as_slice() == report.as_bytes(),
+            "with {} zeros",
+            long.zeros
+        );
     }
     Ok(())
 }

@@ -9,7 +9,7 @@ use Rattle.xbgp_top.proofs.entry.run.Goals as goal
 pub returns-in-None-clause-exact : goal.returns-in-None-clause-exact
 returns-in-None-clause-exact g c = λ files held no_read no_write memory.
     subst (λ (a : Answer). IsAnswered a (g.K.Sink.took c.args.sink.now) (g.K.Sink.took c.write_all.new.sink)
-        c.write_all.result)
+    c.write_all.result)
     (sym (answer-none (map string_bytes c.args.words.now) files (search rules)))
     (usage_written g.K.Sink.took g.K.Sink.faults _ _ c.write_all.result c.write_all.ensures.writes no_write memory)
 
@@ -63,4 +63,4 @@ pub returns-in-Some-Replay-clause-read_cause : goal.returns-in-Some-Replay-claus
 returns-in-Some-Replay-clause-read_cause g c =
     (explains_command g.S.Shelf.held g.S.Shelf.faults g.K.Sink.took g.K.Sink.faults _ _ _ _
     c.replay_files.result (map string_bytes c.args.words.now) _ c.replay_files.ensures.explains
-        (search rules)).read_cause
+    (search rules)).read_cause

@@ -7,7 +7,7 @@ use Rattle.xbgp_top.proofs.hear.gather_table.Given as goal
 abbrev pub invariant-entries : goal.invariant-entries
 invariant-entries g l =
     Gathered g.K.Sink.took g.K.Sink.faults l.fn.sink l.sink (l.fn.page.octets ++ heard_lines l.table) l.page.octets
-        (heard_lines l.entries)
+    (heard_lines l.entries)
 
 abbrev pub decreases-entries : goal.decreases-entries
 decreases-entries g l = length l.entries

@@ -8,5 +8,5 @@ use Rattle.xbgp_top.proofs.hear.print_heard.Goals as goal
 pub returns-in-Ok : goal.returns-in-Ok
 returns-in-Ok g c =
     writes_text g.K.Sink.took g.K.Sink.faults _ _ (heard_lines c.in-Ok.table ++ end_line) c.put_table.result _
-        c.end_status.result
+    c.end_status.result
     (heard_outcome-ok c.args.octets.now c.in-Ok.table c.in-Ok.ensures) c.end_status.ensures c.put_table.ensures

@@ -5,7 +5,7 @@ use Rattle.xbgp_top.proofs.input.read_pieces.Goals as goal
 pub pieces-preserved : goal.pieces-preserved
 pieces-preserved g c =
     let at : c.len-in-pieces.result ≡ length c.pieces.input.items = omega
-        (arith, c.len-in-pieces.ensures, c.pieces.input.ok) in
+    (arith, c.len-in-pieces.ensures, c.pieces.input.ok) in
     record {
       held = c.read.ensures.same ∙ c.pieces.invariant.held;
       faults = c.in-Ok.ensures.quiet ∙ c.pieces.invariant.faults;

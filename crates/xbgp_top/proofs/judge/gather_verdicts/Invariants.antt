@@ -9,7 +9,7 @@ use Rattle.xbgp_top.proofs.judge.gather_verdicts.Given as goal
 abbrev pub invariant-messages : goal.invariant-messages
 invariant-messages g l =
     Gathered g.K.Sink.took g.K.Sink.faults l.fn.sink l.sink (l.fn.page.octets ++ judge_lines (width_of l.wide) l.octets)
-        l.page.octets (lines_of (width_of l.wide) l.messages)
+    l.page.octets (lines_of (width_of l.wide) l.messages)
 
 abbrev pub decreases-messages : goal.decreases-messages
 decreases-messages g l = length l.messages

@@ -9,6 +9,6 @@ use Rattle.xbgp_top.proofs.judge.print_judged.Goals as goal
 pub returns-in-None : goal.returns-in-None
 returns-in-None g c =
     writes_text g.K.Sink.took g.K.Sink.faults _ _ (judge_lines (width_of c.args.wide) c.args.octets.now ++ end_line)
-        c.put_verdicts.result _ c.end_status.result
+    c.put_verdicts.result _ c.end_status.result
     (judge_outcome-none (width_of c.args.wide) c.args.octets.now (sym c.in-None.ensures)) c.end_status.ensures
-        c.put_verdicts.ensures
+    c.put_verdicts.ensures
