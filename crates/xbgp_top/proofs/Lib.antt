@@ -2,4 +2,5 @@ mod InputLemmas
 mod OutputLemmas
 mod HearLemmas
 mod JudgeLemmas
+mod StopLemmas
 mod TopLemmas

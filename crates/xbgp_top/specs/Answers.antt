@@ -1,7 +1,7 @@
 -- The answer to the words of a command line, from the files that are held (this project's own): a status and a text. A
 -- command comes to an outcome: the text of Done, or the status that ends it, which has a text of its own.
-use Rattle.std.specs.Prelude.{ℕ, Bool, false, List, [], ◌∷◌, ◌++◌, length, map, flat_map, ◌==◌, Option, Some, None}
-use Rattle.std.specs.Prelude.{Result, Ok, Err, codes, decimal, nat_lt, if◌then◌else◌}
+use Rattle.std.specs.Prelude.{ℕ, Bool, false, List, [], ◌∷◌, ◌++◌, length, map, flat_map}
+use Rattle.std.specs.Prelude.{◌==◌, Option, Some, None, Result, Ok, Err, codes, decimal, nat_lt, if◌then◌else◌}
 use Rattle.std.specs.List.{concat}
 use Rattle.std.specs.Result.{result_map_both}
 use Rattle.std.specs.Str.{bytes_eq}
@@ -24,6 +24,11 @@ use Rattle.bpf_machine.specs.Running.{Helps, bpf}
 use Rattle.table_print.specs.Words.{cause_word}
 use Rattle.xbgp_config.specs.Configs.{Config, config}
 use Rattle.xbgp_manifest.specs.Manifests.{Manifest, manifest, no_manifest}
+use Rattle.xb_domain.specs.declared.output.Packing.{Packing}
+use Rattle.xb_domain.specs.declared.output.Packing.TheVariants.{Sorted}
+use Rattle.spk_model.specs.declared.host.Setup.{Setup}
+use Rattle.spk_model.specs.Playing.{Replayed, replayed}
+use Rattle.spk_model.specs.Reports.{bad_log_line, end_line}
 use Rattle.xbgp_top.specs.declared.input.TheConstants.{INPUT_LIMIT}
 use Rattle.xbgp_top.specs.declared.exec.TheConstants.{FUEL}
 use Rattle.xbgp_top.specs.declared.command.Job.{Job}
@@ -32,8 +37,9 @@ use Rattle.xbgp_top.specs.declared.status.File.{File}
 use Rattle.xbgp_top.specs.declared.status.File.TheVariants as inputs
 use Rattle.xbgp_top.specs.declared.status.Status.{Status}
 use Rattle.xbgp_top.specs.declared.status.Status.TheVariants.{Done, Usage, ReadFault, WriteFault, OutOfMemory, TooLong}
-use Rattle.xbgp_top.specs.declared.status.Status.TheVariants.{BadConfig, BadManifest, BadStream, BadCode}
-use Rattle.xbgp_top.specs.Commands.{Command, on_file, check, command_of}
+use Rattle.xbgp_top.specs.declared.status.Status.TheVariants.{BadConfig, BadManifest, BadLog, BadStream, BadCode}
+use Rattle.xbgp_top.specs.Commands.{Command, on_file, check, replay, command_of}
+use Rattle.xbgp_top.specs.Statuses.{played_status}
 use Rattle.xbgp_top.specs.Words.{file_word, kind_word, load_word, part_word}
 
 -- a status and the text that is written
@@ -46,24 +52,21 @@ abbrev pub answered : Status → List ℕ → Answer
 answered status text = record { status = status; text = text }
 
 -- a line that begins with `fault`
-abbrev pub fault_line : List (List ℕ) → List ℕ
-fault_line words = line (codes "fault" ∷ words)
-
--- the last line of a whole text
-abbrev pub end_line : List ℕ
-end_line = line (codes "end" ∷ [])
+abbrev pub refusal_line : List (List ℕ) → List ℕ
+refusal_line words = line (codes "fault" ∷ words)
 
 -- the line of a status that says what is wrong with the words or an input; another status has no line
 abbrev pub fault_text : Status → List ℕ
-fault_text Usage = fault_line (codes "usage" ∷ [])
-fault_text (TooLong file) = fault_line (codes "long" ∷ file_word file ∷ [])
+fault_text Usage = refusal_line (codes "usage" ∷ [])
+fault_text (TooLong file) = refusal_line (codes "long" ∷ file_word file ∷ [])
 fault_text (BadConfig fault) =
-    fault_line (codes "config" ∷ kind_word fault.kind ∷ part_word fault.part ∷ decimal fault.index ∷ [])
+    refusal_line (codes "config" ∷ kind_word fault.kind ∷ part_word fault.part ∷ decimal fault.index ∷ [])
 fault_text (BadManifest fault) =
-    fault_line (codes "manifest" ∷ kind_word fault.kind ∷ part_word fault.part ∷ decimal fault.index
+    refusal_line (codes "manifest" ∷ kind_word fault.kind ∷ part_word fault.part ∷ decimal fault.index
     ∷ decimal fault.slot ∷ [])
-fault_text (BadStream at) = fault_line (codes "stream" ∷ decimal at ∷ [])
-fault_text (BadCode fault) = fault_line (codes "code" ∷ load_word fault.kind ∷ decimal fault.slot ∷ [])
+fault_text (BadLog n) = bad_log_line n
+fault_text (BadStream at) = refusal_line (codes "stream" ∷ decimal at ∷ [])
+fault_text (BadCode fault) = refusal_line (codes "code" ∷ load_word fault.kind ∷ decimal fault.slot ∷ [])
 fault_text Done = []
 fault_text ReadFault = []
 fault_text WriteFault = []
@@ -98,13 +101,13 @@ abbrev pub heard_line : Prefix × List ℕ → List ℕ
 heard_line e = line (prefix_text e.0 ∷ hex_text e.1 ∷ [])
 
 -- a line for each prefix, by rising prefix
-abbrev pub table_lines : Sections → List ℕ
-table_lines table = flat_map heard_line table
+abbrev pub heard_lines : Sections → List ℕ
+heard_lines table = flat_map heard_line table
 
 -- the table that a stream announces, or the offset at which it is refused
 abbrev pub heard_outcome : List ℕ → Outcome (List ℕ)
 heard_outcome octets =
-    elim (heard octets) [ Ok table ↦ Ok (table_lines table ++ end_line) | Err at ↦ Err (BadStream at) ]
+    elim (heard octets) [ Ok table ↦ Ok (heard_lines table ++ end_line) | Err at ↦ Err (BadStream at) ]
 
 -- the messages of a stream, each with its offset
 abbrev pub messages_of : List ℕ → List FoundMessage
@@ -203,10 +206,26 @@ check_outcome config manifest files =
 abbrev pub file_outcome : Job → List ℕ → Files → Outcome (List ℕ)
 file_outcome job name files = input inputs.Input name files >>= job_outcome job
 
+-- what a speaker is made of; the manifest is read after the configuration is judged
+abbrev pub setup_input : List ℕ → List ℕ → Files → Outcome Setup
+setup_input config manifest files =
+    config_input config files
+    >>= (λ c. manifest_input manifest files >>= (λ m. Ok (record { config = c; manifest = m })))
+
+-- the status and the report of a replay
+abbrev pub replay_done : Replayed → Answer
+replay_done r = answered (played_status r.played) r.text
+
+-- the replay of the log of that name by a speaker that packs by a rule, or why there is no speaker
+abbrev pub replay_answer : Packing → Outcome Setup → List ℕ → Files → Answer
+replay_answer rule (Ok setup) log files = replay_done (replayed rule setup log files)
+replay_answer rule (Err status) log files = ended (Err status)
+
 -- what a command comes to, from the files that are held
 unfoldable pub command_answer : Command → Files → Answer
 command_answer (on_file job name) files = ended (file_outcome job name files)
 command_answer (check config manifest) files = ended (check_outcome config manifest files)
+command_answer (replay config manifest log) files = replay_answer Sorted (setup_input config manifest files) log files
 
 -- the answer to words, from the files that are held; words that are no command are bad usage
 unfoldable pub answer : List (List ℕ) → Files → Answer

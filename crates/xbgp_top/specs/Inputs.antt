@@ -1,6 +1,6 @@
 -- What a shelf's files say of a step that reads inputs.
-use Rattle.std.specs.Prelude.{◌≡◌, ◌≢◌, ◌⊎◌, ℕ, ◌<◌, ◌≤◌, List, [], length, take, Option, Some, None, Result, Ok, Err}
-use Rattle.std.specs.Prelude.{MatchOption}
+use Rattle.std.specs.Prelude.{◌≡◌, ◌≢◌, ◌⊎◌, ℕ, ◌<◌, ◌≤◌, List, []}
+use Rattle.std.specs.Prelude.{length, take, Option, Some, None, Ok, Err, MatchOption}
 use Rattle.xb_io.specs.Causes.{Files, file_named, FaultsRose, IsMissing}
 use Rattle.xbgp_top.specs.declared.input.TheConstants.{INPUT_LIMIT}
 use Rattle.xbgp_top.specs.declared.input.Unread.{Unread}

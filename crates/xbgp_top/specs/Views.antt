@@ -3,14 +3,15 @@ use Rattle.std.specs.Prelude.{ℕ, List, Result, Ok, Err, Vec}
 use Rattle.std.specs.declared.alloc.Global.{Global}
 use Rattle.xb_values.specs.Buffers.{Buffer}
 use Rattle.xbgp_top.specs.declared.command.Command as lent
-use Rattle.xbgp_top.specs.declared.command.Command.TheVariants.{File, Check}
+use Rattle.xbgp_top.specs.declared.command.Command.TheVariants.{File, Check, Replay}
 use Rattle.xbgp_top.specs.declared.status.Status.{Status}
-use Rattle.xbgp_top.specs.Commands.{Command, on_file, check}
+use Rattle.xbgp_top.specs.Commands.{Command, on_file, check, replay}
 
 -- a command with the octets of its words
 abbrev pub command_view : lent.Command → Command
 command_view (File job name) = on_file job name.now
 command_view (Check config manifest) = check config.now manifest.now
+command_view (Replay config manifest log) = replay config.now manifest.now log.now
 
 -- the octets that were read, or the status instead
 abbrev pub octets_view : Result (Vec ℕ Global) Status → Result (List ℕ) Status

@@ -49,3 +49,4 @@ abbrev pub file_word : File → List ℕ
 file_word files.Input = codes "input"
 file_word files.Config = codes "config"
 file_word files.Manifest = codes "manifest"
+file_word files.Log = codes "log"

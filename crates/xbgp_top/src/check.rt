@@ -19,8 +19,12 @@ use xbgp_manifest::{Manifest, read_manifest};
 // Room for four lines of a word and a count, and the last line.
 const COUNTS_ROOM: usize = 160;
 
-// Reads and judges a configuration.
-fn config_named<S: Shelf>(alloc: Global, name: &str, shelf: &mut S) -> Result<Config, Status>
+/// Reads and judges a configuration.
+pub(crate) fn config_named<S: Shelf>(
+    alloc: Global,
+    name: &str,
+    shelf: &mut S,
+) -> Result<Config, Status>
     ensures { Obtains S.held S.faults shelf.old shelf.new (config_input name.now) result }
 {
     let text = read_input(alloc, File::Config, name, shelf)?;
@@ -34,8 +38,12 @@ fn is_none(name: &str) -> bool
     name == "-"
 }
 
-// Reads and judges a manifest.
-fn manifest_named<S: Shelf>(alloc: Global, name: &str, shelf: &mut S) -> Result<Manifest, Status>
+/// Reads and judges a manifest; `-` means none, and nothing is read.
+pub(crate) fn manifest_named<S: Shelf>(
+    alloc: Global,
+    name: &str,
+    shelf: &mut S,
+) -> Result<Manifest, Status>
     ensures { Obtains S.held S.faults shelf.old shelf.new (manifest_input name.now) result }
 {
     if is_none(name) {

@@ -18,6 +18,8 @@ pub(crate) enum Job {
 pub(crate) enum Command<'a> {
     File(Job, &'a str),
     Check(&'a str, &'a str),
+    /// The names of a configuration, a manifest and a log.
+    Replay(&'a str, &'a str, &'a str),
 }
 
 // The job that a word names.
@@ -48,6 +50,10 @@ pub(crate) fn command_in(words: &[String]) -> Option<Command<'_>>
         },
         [word, config, manifest] if word.as_str() == "check" => {
             Some(Command::Check(config.as_str(), manifest.as_str()))
+        }
+        [word, host, config, manifest, log]
+            if word.as_str() == "replay" && host.as_str() == "listed" => {
+            Some(Command::Replay(config.as_str(), manifest.as_str(), log.as_str()))
         }
         _ => None,
     }

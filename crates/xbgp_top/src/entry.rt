@@ -2,7 +2,7 @@
 ghost use Rattle.std.specs.Prelude.{◌≡◌, ◌≢◌, ◌≤◌, ◌⊎◌, Some, map, string_bytes};
 ghost use Rattle.xb_io.specs.Causes.{Files, FaultsRose, TookFront};
 ghost use Rattle.xbgp_top.specs.Answers.{answer, command_answer, ended, job_outcome};
-ghost use Rattle.xbgp_top.specs.Commands.{check, command_of, on_file};
+ghost use Rattle.xbgp_top.specs.Commands.{check, command_of, on_file, replay};
 ghost use Rattle.xbgp_top.specs.Outputs.{Writes};
 ghost use Rattle.xbgp_top.specs.Top.{Explains, IsAnswered, IsUsage, SaysMissing};
 
@@ -13,7 +13,9 @@ use crate::hear::print_heard;
 use crate::input::read_input;
 use crate::judge::print_judged;
 use crate::output::{USAGE_LINE, print_text, refuse, write_all};
+use crate::replay::replay_on;
 use crate::{File, Status};
+use host_listed::Listed;
 use std::alloc::Global;
 use xb_io::{Shelf, Sink};
 
@@ -62,6 +64,22 @@ fn check_files<S: Shelf, K: Sink>(
     print_text(alloc, text, sink)
 }
 
+// Replays a log on the speaker that keeps lists.
+fn replay_files<S: Shelf, K: Sink>(
+    alloc: Global,
+    config: &str,
+    manifest: &str,
+    log: &str,
+    shelf: &mut S,
+    sink: &mut K,
+) -> Status
+    ensures explains { let told = command_answer (replay config.now manifest.now log.now) in
+        Explains S.held S.faults K.took K.faults shelf.old shelf.new sink.old sink.new told result }
+    ensures command { result ≢ Status.Usage }
+{
+    replay_on::<Listed, S, K>(alloc, config, manifest, log, shelf, sink)
+}
+
 /// Does what the words of the command line say, without the program's own name, over the files of the shelf, and writes
 /// the text to the sink.
 pub fn run<S: Shelf, K: Sink>(
@@ -100,5 +118,8 @@ pub fn run<S: Shelf, K: Sink>(
         None => write_all(sink, USAGE_LINE, Status::Usage),
         Some(Command::File(job, name)) => ask_file(alloc, job, name, shelf, sink),
         Some(Command::Check(config, manifest)) => check_files(alloc, config, manifest, shelf, sink),
+        Some(Command::Replay(config, manifest, log)) => {
+            replay_files(alloc, config, manifest, log, shelf, sink)
+        }
     }
 }

@@ -2,7 +2,8 @@
 ghost use Rattle.std.specs.Prelude.{◌≡◌, ◌++◌, ◌∷◌, [], codes, decimal, false, None, IfOk};
 ghost use Rattle.xb_values.specs.Texts.{line as line_of};
 ghost use Rattle.bpf_insn.specs.Loading.{load_fault};
-ghost use Rattle.xbgp_top.specs.Answers.{alone, end_line, end_words, exec_outcome, no_help, no_helper};
+ghost use Rattle.spk_model.specs.Reports.{end_line};
+ghost use Rattle.xbgp_top.specs.Answers.{alone, end_words, exec_outcome, no_help, no_helper};
 ghost use Rattle.xbgp_top.specs.Inputs.{Gives};
 ghost use Rattle.xbgp_top.specs.Views.{text_view};
 

@@ -1,6 +1,7 @@
 //! The command `heard`: the table that a stream of messages announces, a line for each prefix.
 ghost use Rattle.std.specs.Prelude.{◌≡◌, ◌++◌, OnOk};
-ghost use Rattle.xbgp_top.specs.Answers.{end_line, ended, heard_line, heard_outcome, table_lines};
+ghost use Rattle.spk_model.specs.Reports.{end_line};
+ghost use Rattle.xbgp_top.specs.Answers.{ended, heard_line, heard_outcome, heard_lines};
 ghost use Rattle.xb_io.specs.Pages.{Gathers, Puts};
 ghost use Rattle.xbgp_top.specs.Outputs.{Writes};
 
@@ -43,7 +44,7 @@ fn gather_table<K: Sink>(
     page: &mut Buf,
     sink: &mut K,
 ) -> Result<(), Halt>
-    ensures { Gathers K.took K.faults sink.old sink.new page.old.octets page.new.octets (table_lines table.now) result }
+    ensures { Gathers K.took K.faults sink.old sink.new page.old.octets page.new.octets (heard_lines table.now) result }
 {
     let mut line = Buf::make(alloc, LINE)?;
     let mut entries = table.entries();
@@ -56,7 +57,7 @@ fn gather_table<K: Sink>(
 
 // Writes the lines of a table and the last line.
 fn put_table<K: Sink>(alloc: Global, table: &Table<'_>, sink: &mut K) -> Result<(), Halt>
-    ensures { Puts K.took K.faults sink.old sink.new (table_lines table.now ++ end_line) result }
+    ensures { Puts K.took K.faults sink.old sink.new (heard_lines table.now ++ end_line) result }
 {
     let mut page = Buf::make(alloc, PAGE)?;
     gather_table(alloc, table, &mut page, sink)?;

@@ -2,7 +2,8 @@
 ghost use Rattle.std.specs.Prelude.{◌≡◌, ◌≤◌, ◌++◌, ◌∷◌, [], codes, decimal, length, OnOk};
 ghost use Rattle.std.specs.Option.{option_map};
 ghost use Rattle.xb_values.specs.Texts.{hex_text, line as line_of};
-ghost use Rattle.xbgp_top.specs.Answers.{end_line, ended, judge_line, judge_lines, judge_outcome, rest_offset};
+ghost use Rattle.spk_model.specs.Reports.{end_line};
+ghost use Rattle.xbgp_top.specs.Answers.{ended, judge_line, judge_lines, judge_outcome, rest_offset};
 ghost use Rattle.xb_io.specs.Pages.{Gathers, Puts};
 ghost use Rattle.bgp_attr.specs.Paths.{width_of};
 ghost use Rattle.bgp_check.specs.Judgement.{judge};

@@ -88,6 +88,11 @@ fn fault_text(alloc: Global, status: Status) -> Result<Buf, AllocError>
             append_decimal(&mut line, u64::from(fault.slot));
             line.append(b"\n");
         }
+        Status::BadLog(number) => {
+            line.append(b"fault log ");
+            append_decimal(&mut line, number);
+            line.append(b"\n");
+        }
         Status::BadStream(at) => {
             line.append(b"fault stream ");
             append_decimal(&mut line, at);

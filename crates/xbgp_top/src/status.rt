@@ -1,9 +1,10 @@
 //! How a run ended: a status, the number with which the process ends, and the status that each error becomes.
 ghost use Rattle.std.specs.Prelude.{◌≡◌};
-ghost use Rattle.xbgp_top.specs.Statuses.{config_status, load_status, manifest_status, status_code};
+ghost use Rattle.xbgp_top.specs.Statuses.{config_status, load_status, manifest_status, played_status, status_code};
 ghost use Rattle.xbgp_top.specs.declared.status.Status.TheVariants.{OutOfMemory};
 
 use bpf_insn::{LoadError, LoadFault};
+use spk_model::Played;
 use std::alloc::AllocError;
 use xbgp_config::{ConfigError, ConfigFault};
 use xbgp_manifest::{ManifestError, ManifestFault};
@@ -14,6 +15,7 @@ pub enum File {
     Input,
     Config,
     Manifest,
+    Log,
 }
 
 /// How a run ended.
@@ -24,6 +26,7 @@ pub enum File {
 /// - `WriteFault`: the text could not be written; a front of it was.
 /// - `BadConfig`: the configuration is refused.
 /// - `BadManifest`: the manifest is refused.
+/// - `BadLog`: the log is refused at the line of that number, from 1; the events before it were replayed.
 /// - `OutOfMemory`: there was no memory; a front of the text may have been written.
 /// - `TooLong`: an input has more octets than its limit.
 /// - `BadStream`: the stream is refused at that offset.
@@ -36,6 +39,7 @@ pub enum Status {
     WriteFault,
     BadConfig(ConfigFault),
     BadManifest(ManifestFault),
+    BadLog(u64),
     OutOfMemory,
     TooLong(File),
     BadStream(u64),
@@ -54,6 +58,7 @@ impl Status {
             Status::WriteFault => 4,
             Status::BadConfig(_) => 5,
             Status::BadManifest(_) => 6,
+            Status::BadLog(_) => 7,
             Status::OutOfMemory => 8,
             Status::TooLong(_) => 9,
             Status::BadStream(_) => 10,
@@ -99,6 +104,21 @@ impl From<LoadError> for Status {
         match error {
             LoadError::OutOfMemory => Status::OutOfMemory,
             LoadError::Bad(fault) => Status::BadCode(fault),
+        }
+    }
+}
+
+impl From<Played> for Status {
+    ghost from_gives = { λ p s. s ≡ played_status p };
+
+    fn from(played: Played) -> Status {
+        match played {
+            Played::Done => Status::Done,
+            Played::ReadFault => Status::ReadFault,
+            Played::WriteFault => Status::WriteFault,
+            Played::BadLog(line) => Status::BadLog(line),
+            Played::TooLong => Status::TooLong(File::Log),
+            Played::OutOfMemory => Status::OutOfMemory,
         }
     }
 }

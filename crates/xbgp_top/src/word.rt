@@ -67,5 +67,6 @@ pub(crate) fn file_word(file: File) -> &'static [u8]
         File::Input => b"input",
         File::Config => b"config",
         File::Manifest => b"manifest",
+        File::Log => b"log",
     }
 }

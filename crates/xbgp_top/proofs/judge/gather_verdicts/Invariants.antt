@@ -8,7 +8,8 @@ use Rattle.xbgp_top.proofs.judge.gather_verdicts.Given as goal
 -- the lines so far are gathered, and those of the messages that are left are still to come
 abbrev pub invariant-messages : goal.invariant-messages
 invariant-messages g l =
-    Gathered g.K.Sink.took g.K.Sink.faults l.fn.sink l.sink (l.fn.page.octets ++ judge_lines (width_of l.wide) l.octets) l.page.octets (lines_of (width_of l.wide) l.messages)
+    Gathered g.K.Sink.took g.K.Sink.faults l.fn.sink l.sink (l.fn.page.octets ++ judge_lines (width_of l.wide) l.octets)
+    l.page.octets (lines_of (width_of l.wide) l.messages)
 
 abbrev pub decreases-messages : goal.decreases-messages
 decreases-messages g l = length l.messages
