@@ -1,6 +1,6 @@
 -- The steps over octets that write whole prefixes.
 use Rattle.std.proofs.Common.{◌≡◌, refl, ◌∙◌, ap, subst, sym, ℕ, true, List, [], ◌∷◌, map}
-use Rattle.std.specs.Prelude.{Result, Ok, Err}
+use Rattle.std.specs.Prelude.{Ok}
 use Rattle.xb_values.specs.Prefixes.{Prefix, are_prefixes, prefixes}
 use Rattle.bgp_update.specs.Walks.{prefixes_from}
 use Rattle.bgp_update.proofs.WalkLemmas.{prefixes_from-whole}

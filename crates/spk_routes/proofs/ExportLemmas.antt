@@ -1,23 +1,20 @@
 -- What the export of a best route leaves.
-use Rattle.std.proofs.Common.{◌≡◌, refl, sym, ◌∙◌, ap, subst, ℕ, Bool, true, false, List, [], ◌∷◌, Option, Some, None}
-use Rattle.std.specs.Prelude.{IfSome, IsTrue, if◌then◌else◌}
+use Rattle.std.proofs.Common.{◌≡◌, refl, ◌∙◌, ap, subst, ℕ, Bool, true, false, List, [], ◌∷◌, None}
+use Rattle.std.specs.Prelude.{if◌then◌else◌}
 use Rattle.xb_domain.specs.declared.point.Point.TheVariants.{Outbound}
 use Rattle.xb_domain.specs.declared.side.Side.{Side}
 use Rattle.xb_values.specs.Prefixes.{Prefix}
-use Rattle.bgp_attr.specs.Routes.{Route, route_of, IsRoute}
-use Rattle.xbgp_view.specs.Views.{Edited}
-use Rattle.spk_native.specs.Export.{carry, native_section}
+use Rattle.bgp_attr.specs.Routes.{Route, IsRoute}
+use Rattle.spk_native.specs.Export.{carry}
 use Rattle.spk_native.specs.Filters.{accepts_outbound}
 use Rattle.spk_native.specs.Values.{HasNoFault}
 use Rattle.xbgp_config.specs.Configs.{Config}
 use Rattle.xbgp_points.specs.declared.outcome.Outcome.{Outcome}
-use Rattle.xbgp_points.specs.declared.outcome.Outcome.TheVariants.{Verdict, Native, Failed}
-use Rattle.xbgp_points.specs.Chains.{is_sendable}
 use Rattle.xbgp_points.specs.Engines.{Kept, Answers}
-use Rattle.xbgp_points.specs.Points.{Called, outbound, given_section, section_by, section_left}
+use Rattle.xbgp_points.specs.Points.{Called, outbound}
 use Rattle.spk_model.specs.Choosing.{Trace}
 use Rattle.spk_model.specs.Exporting.{Exported, accepted, encoded_for, exported}
-use Rattle.spk_routes.specs.Exports.{given_or, Exports, Passes}
+use Rattle.spk_routes.specs.Exports.{Exports, Passes}
 
 -- what outbound leaves, by what the code reads
 pub passes : (config : Config) (old new : Kept) (peer source : Side) (prefix : Prefix) (best : Route)

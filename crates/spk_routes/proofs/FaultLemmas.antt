@@ -1,12 +1,10 @@
 -- The section that is sent of a route without faults.
-use Rattle.std.proofs.Common.{◌≡◌, ◌∙◌, sym, ap, subst, ℕ, Bool, true, false, List, [], length, Option, Some, None}
+use Rattle.std.proofs.Common.{◌≡◌, ◌∙◌, sym, ap, subst, ℕ, Bool, true, false, List, [], length}
 use Rattle.std.specs.Prelude.{IfSome, IsTrue, ◌&&◌, nat_le, unwrap_or}
 use Rattle.xb_wire.specs.declared.numbers.TheConstants.{MAX_SECTION}
-use Rattle.xb_domain.specs.declared.side.Side.{Side}
 use Rattle.bgp_attr.specs.Routes.{Route, route_of, IsRoute}
 use Rattle.bgp_check.specs.Judgement.{is_clean}
-use Rattle.xbgp_config.specs.Configs.{is_host_address}
-use Rattle.spk_native.specs.Export.{carry, native_section}
+use Rattle.spk_native.specs.Export.{native_section}
 use Rattle.spk_native.specs.Values.{HasNoFault}
 use Rattle.spk_native.proofs.SoundLemmas.{HasNoFault-clean}
 use Rattle.spk_native.proofs.SentLemmas.{HasNoFault-native_section}

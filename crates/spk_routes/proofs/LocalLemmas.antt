@@ -1,7 +1,7 @@
 -- The route of a local network is sound.
-use Rattle.std.proofs.Common.{◌≡◌, ◌≤◌, ◌<◌, ◌∙◌, ◌/◌, ◌%◌, ◌^◌, refl, sym, ap, subst, ℕ, Bool, true, false, List, []}
-use Rattle.std.proofs.Common.{◌∷◌, length, arith, lit≤, Option, Some, None}
-use Rattle.std.specs.Prelude.{IsTrue, is_none, ◌==◌, ◌&&◌, not, nat_lt}
+use Rattle.std.proofs.Common.{◌≡◌, ◌<◌, ◌∙◌, ◌/◌, ◌%◌, ◌^◌, refl, sym, ap, subst, ℕ, Bool, true, false, []}
+use Rattle.std.proofs.Common.{◌∷◌, arith, lit≤, None}
+use Rattle.std.specs.Prelude.{IsTrue, ◌==◌, ◌&&◌, not, nat_lt}
 use borrow.Author.Tests.{ltb-true}
 use Rattle.std.specs.List.{AllByRecursion}
 use Rattle.std.specs.Ordering.{nat_cmp}
@@ -9,7 +9,7 @@ use Rattle.std.proofs.lemmas.Map.Lookups.{exact_unsigned}
 use Rattle.xb_words.specs.Cut.{cut}
 use Rattle.xb_words.specs.Octets.{four_octets}
 use Rattle.xb_words.proofs.TableLemmas.{value_at-some}
-use Rattle.bgp_attr.specs.Routes.{Attribute, Route, attribute_at, canon}
+use Rattle.bgp_attr.specs.Routes.{Attribute}
 use Rattle.bgp_attr.specs.Rules.{attr_fault, fault_if, is_host}
 use Rattle.bgp_attr.specs.declared.rule.AttrFault.{AttrFault}
 use Rattle.bgp_attr.specs.declared.rule.AttrFault.TheVariants.{NextHop}

@@ -1,5 +1,5 @@
 -- Numbers from one on.
-use Rattle.std.proofs.Common.{◌≡◌, ◌∙◌, ap, ℕ, zero, suc, ◌+◌, List, [], ◌∷◌, ◌++◌, arith, add-one}
+use Rattle.std.proofs.Common.{◌≡◌, ◌∙◌, ap, ℕ, zero, suc, ◌+◌, [], ◌∷◌, ◌++◌, arith, add-one}
 use Rattle.std.specs.List.{range_with_len}
 
 range_with_len-suc : (a n : ℕ) → range_with_len a (suc n) ≡ range_with_len a n ++ (a + n) ∷ []

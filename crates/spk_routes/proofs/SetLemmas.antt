@@ -1,7 +1,6 @@
 -- Sets of prefixes, and which prefixes they have.
-use Rattle.std.proofs.Common.{◌≡◌, inl, inr, refl, sym, ◌∙◌, ap, ℕ, Bool, true, false, List, [], ◌∷◌, fold, filter}
-use Rattle.std.specs.Prelude.{◌||◌, ◌&&◌, ◌==◌, not}
-use Rattle.std.specs.Cmp.{IsTotalOrder}
+use Rattle.std.proofs.Common.{◌≡◌, inl, inr, refl, sym, ◌∙◌, ap, ℕ, Bool, true, false, List, [], ◌∷◌, filter}
+use Rattle.std.specs.Prelude.{◌||◌, ◌&&◌, ◌==◌}
 use Rattle.std.specs.List.{list_any}
 use Rattle.std.specs.BTreeMap.{is_at}
 use Rattle.std.specs.BTreeSet.{insert_key}
@@ -9,8 +8,7 @@ use Rattle.std.specs.Ordering.{match_ordering, nat_cmp, ordering_then, is_eq}
 use Rattle.std.specs.declared.cmp.Ordering.{Ordering}
 use Rattle.std.specs.declared.cmp.Ordering.TheVariants.{Less, Equal, Greater}
 use Rattle.std.proofs.lemmas.Bool.Decides.{eqb_tells}
-use Rattle.std.proofs.lemmas.Cmp.{eq_by_cmp_equiv}
-use Rattle.xb_words.specs.Table.{has_key, with_key, with_keys, set_of}
+use Rattle.xb_words.specs.Table.{has_key, with_key, set_of}
 use Rattle.xb_values.specs.Prefixes.{Prefix, prefix_cmp}
 use Rattle.xb_values.proofs.PrefixLemmas.{prefix_total}
 use Rattle.bgp_write.proofs.SetLemmas.{has_key-with_keys}

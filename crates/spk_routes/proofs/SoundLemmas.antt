@@ -1,10 +1,9 @@
 -- Sound routes.
-use Rattle.std.proofs.Common.{◌≡◌, refl, sym, ap, ℕ, Bool, true, Option, Some, None}
+use Rattle.std.proofs.Common.{◌≡◌, refl, sym, ap, ℕ, true, Option, Some, None}
 use Rattle.std.specs.Prelude.{is_some, is_none}
 use Rattle.bgp_attr.specs.Routes.{Attribute, Route, attribute_at}
-use Rattle.bgp_attr.specs.Rules.{attr_fault}
 use Rattle.spk_native.specs.Values.{HasNoFault, has_sound, is_sound}
-use Rattle.xbgp_points.specs.Engines.{HasMandatory, KeepsRoute}
+use Rattle.xbgp_points.specs.Engines.{KeepsRoute}
 use Rattle.spk_routes.specs.Sound.{IsSound}
 
 there_sound : (r : Route) (code : ℕ) (o : Option Attribute) → HasNoFault r → o ≡ attribute_at r code

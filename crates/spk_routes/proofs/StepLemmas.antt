@@ -1,6 +1,6 @@
 -- A list from an index on, by the element there.
-use Rattle.std.proofs.Common.{◌≡◌, refl, ◌∙◌, ap, ℕ, ◌+◌, Bool, true, false, List, [], ◌∷◌, drop, Option, Some}
-use Rattle.std.specs.Prelude.{find, if◌then◌else◌, ◌||◌}
+use Rattle.std.proofs.Common.{◌≡◌, refl, ◌∙◌, ap, ℕ, ◌+◌, Bool, true, false, List, ◌∷◌, drop, Some}
+use Rattle.std.specs.Prelude.{find}
 use Rattle.std.specs.List.{list_any, slice_get}
 use Rattle.std.proofs.lemmas.List.{at_drop_more}
 use Rattle.std.proofs.lemmas.Option.{slice_get_within, get_or_from_slice_get}

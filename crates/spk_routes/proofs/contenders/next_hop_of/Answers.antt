@@ -1,4 +1,3 @@
-use Rattle.std.proofs.Common.{◌≡◌, ℕ}
 use Rattle.spk_routes.proofs.HopLemmas.{next_hop_none}
 use Rattle.spk_routes.proofs.contenders.next_hop_of.Goals as goal
 

@@ -1,4 +1,4 @@
-use Rattle.std.proofs.Common.{◌≡◌, ◌∙◌, sym, ap}
+use Rattle.std.proofs.Common.{◌∙◌, ap}
 use Rattle.xb_values.specs.Buffers.{Buffer}
 use Rattle.xbgp_points.specs.Points.{Called, encode}
 use Rattle.spk_routes.proofs.FaultLemmas.{given_faultless}

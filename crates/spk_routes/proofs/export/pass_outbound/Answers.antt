@@ -1,4 +1,4 @@
-use Rattle.std.proofs.Common.{◌≡◌, ◌∙◌, sym, ap, subst}
+use Rattle.std.proofs.Common.{◌≡◌, sym, ap, subst}
 use Rattle.std.specs.Prelude.{IsTrue}
 use Rattle.xb_domain.specs.declared.side.Side.{Side}
 use Rattle.xbgp_config.specs.Configs.{is_host_address}
@@ -6,7 +6,6 @@ use Rattle.bgp_attr.specs.Routes.{Route}
 use Rattle.xbgp_view.specs.Views.{Edited}
 use Rattle.spk_native.specs.Values.{HasNoFault}
 use Rattle.spk_routes.proofs.ExportLemmas.{passes}
-use Rattle.bgp_attr.specs.Routes.{IsRoute}
 use Rattle.spk_native.proofs.FormedLemmas.{IsFormed-IsRoute}
 use Rattle.spk_native.proofs.SentLemmas.{HasNoFault-carry}
 use Rattle.spk_routes.proofs.export.pass_outbound.Goals as goal

@@ -1,6 +1,5 @@
-use Rattle.std.proofs.Common.{◌≡◌, ◌∙◌, sym, ap, subst}
+use Rattle.std.proofs.Common.{◌∙◌, sym, ap, subst}
 use Rattle.bgp_attr.specs.Paths.{width_of}
-use Rattle.bgp_attr.specs.Routes.{Route}
 use Rattle.xbgp_view.specs.Views.{Edited}
 use Rattle.spk_native.specs.Filters.{as_received}
 use Rattle.spk_native.specs.Values.{IsFaultless}

@@ -1,4 +1,3 @@
-use Rattle.std.proofs.Common.{◌≡◌, ◌∙◌, sym, ap}
 use Rattle.spk_routes.proofs.ExportLemmas.{not_passed, then_encoded}
 use Rattle.spk_routes.proofs.export.Exporter.export.Goals as goal
 
