@@ -6,3 +6,4 @@ mod UpdateLemmas
 mod SoundLemmas
 mod JudgeLemmas
 mod WalkLemmas
+mod StartLemmas

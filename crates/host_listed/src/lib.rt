@@ -12,5 +12,6 @@ mod best;
 mod decision;
 mod rescan;
 mod routing;
+mod start;
 mod tables;
 mod update;
