@@ -1,8 +1,10 @@
 -- The routes before the first event.
 use Rattle.std.proofs.Common.{◌≡◌, ◌≤◌, ◌+◌, refl, sym, ◌∙◌, ap, subst, ℕ, Bool, true, List, [], ◌∷◌, drop, map}
-use Rattle.std.proofs.Common.{replicate, length, arith, Some}
+use Rattle.std.proofs.Common.{replicate, length, arith, Some, Vec}
+use Rattle.std.specs.declared.alloc.Global.{Global}
 use Rattle.std.specs.Prelude.{if◌then◌else◌, nat_le, slice_get}
 use Rattle.std.specs.List.{AllByRecursion}
+use Rattle.std.specs.BTreeMap.{BTreeMap}
 use Rattle.std.proofs.lemmas.List.{length-map, drop_all}
 use Rattle.std.proofs.lemmas.Simd.{splat_is_map}
 use Rattle.xb_words.specs.Octets.{four_octets}
@@ -22,8 +24,9 @@ use Rattle.spk_model.specs.Routing.{Chosen, Routing, Tables, no_tables}
 use Rattle.spk_model.specs.Turning.{start_routing}
 use Rattle.spk_routes.proofs.StepLemmas.{drop-at}
 use Rattle.host_listed.specs.declared.routing.Core.{Core}
+use Rattle.host_listed.specs.declared.start.FirstTables.{FirstTables}
 use Rattle.host_listed.specs.Meaning.{setup_of, routing_of}
-use Rattle.host_listed.specs.Starting.{with_networks, IsStarted}
+use Rattle.host_listed.specs.Starting.{with_networks, AreFirst, IsStarted}
 
 -- whether a route with an attribute set fits
 abbrev fits : Route → ℕ → ℕ → List ℕ → Bool
@@ -90,22 +93,32 @@ setup_with k m = record { config = k; manifest = m }
 abbrev routing_with : List (Prefix × Chosen) → Engine → List Tables → Routing
 routing_with b e ts = record { best = b; engine = e; tables = ts }
 
--- the parts of a core before the first event
-pub is_started : (setup : Setup) (c : Core) → IsConfig setup.config → c.config ≡ setup.config
-    → c.engine ≡ started setup.manifest (setup.config).local → c.own ≡ own_chosen (local_route setup.config)
-    → c.best.entries ≡ with_networks (c.own).route [] (setup.config).networks
-    → c.peers.items ≡ replicate (length (setup.config).peers) no_tables → IsStarted setup c
-is_started setup c kept config engine own best peers =
+-- the tables before the first event
+pub are_first : (config : Config) (t : FirstTables) (own : Chosen) → own ≡ own_chosen (local_route config)
+    → t.own ≡ own → t.best.entries ≡ with_networks own.route [] config.networks
+    → t.peers.items ≡ replicate (length config.peers) no_tables → AreFirst config t
+are_first config t own own_is same best peers = record {
+  own = same ∙ own_is;
+  best = best ∙ ap (λ (b : Chosen). with_networks b.route [] config.networks) own_is;
+  peers = peers;
+}
+
+-- a core of them, and of an engine that was not called yet
+pub is_started : (setup : Setup) (t : FirstTables) (c : Core) → IsConfig setup.config → AreFirst setup.config t
+    → c.config ≡ setup.config → c.engine ≡ started setup.manifest (setup.config).local → c.own ≡ t.own
+    → c.best ≡ t.best → c.peers ≡ t.peers → IsStarted setup c
+is_started setup t c kept first config engine own best peers =
     let tables : c.peers.items ≡ map (λ _. no_tables) (setup.config).peers =
-    peers ∙ splat_is_map (setup.config).peers (length (setup.config).peers) no_tables refl in
+    ap (λ (v : Vec Tables Global). v.items) peers ∙ first.peers
+    ∙ splat_is_map (setup.config).peers (length (setup.config).peers) no_tables refl in
     let entries : c.best.entries ≡ with_networks (local_route setup.config) [] (setup.config).networks =
-    best ∙ ap (λ (b : Chosen). with_networks b.route [] (setup.config).networks) own in
-    let first : Routing = start_routing setup in
+    ap (λ (m : BTreeMap Prefix Chosen). m.entries) best ∙ first.best in
+    let start : Routing = start_routing setup in
     record {
       ready = record {
         few = subst (λ (k : Config). length k.peers ≤ 64) (sym config) kept.few_peers;
         local = ap (λ (e : Kept). e.local) engine ∙ sym (ap (λ (k : Config). k.local) config);
-        own = own ∙ ap (λ (k : Config). own_chosen (local_route k)) (sym config);
+        own = own ∙ first.own ∙ ap (λ (k : Config). own_chosen (local_route k)) (sym config);
         count = ap length tables ∙ length-map (setup.config).peers (λ _. no_tables)
             ∙ sym (ap (λ (k : Config). length k.peers) config);
         sources = subst (AllByRecursion (λ (e : Prefix × Chosen). e.1.source ≤ length (c.config).peers)) (sym entries)
@@ -115,6 +128,6 @@ is_started setup c kept config engine own best peers =
       made_of = ap (λ (k : Config). setup_with k c.engine.manifest) config
           ∙ ap (λ (e : Kept). setup_with setup.config e.manifest) engine;
       routes = ap (λ (b : List (Prefix × Chosen)). routing_with b c.engine.engine c.peers.items) entries
-          ∙ ap (λ (e : Kept). routing_with first.best e.engine c.peers.items) engine
-          ∙ ap (routing_with first.best first.engine) tables;
+          ∙ ap (λ (e : Kept). routing_with start.best e.engine c.peers.items) engine
+          ∙ ap (routing_with start.best start.engine) tables;
     }

@@ -3,7 +3,7 @@ ghost use Rattle.std.specs.Prelude.{◌≡◌, [], replicate, IfOk};
 ghost use Rattle.spk_model.specs.Sources.{local_route};
 ghost use Rattle.spk_model.specs.Routing.{no_tables};
 ghost use Rattle.spk_routes.specs.Sound.{IsSound};
-ghost use Rattle.host_listed.specs.Starting.{with_networks, IsStarted};
+ghost use Rattle.host_listed.specs.Starting.{with_networks, AreFirst, IsStarted};
 
 use crate::best::Best;
 use crate::routing::Core;
@@ -19,6 +19,22 @@ use xb_values::Prefix;
 use xbgp_config::{Config, Networks};
 use xbgp_points::Engine;
 use xbgp_view::Overlay;
+
+// The tables of a core before the first event.
+#[derive(Drop)]
+struct FirstTables {
+    own: Best,
+    best: BTreeMap<Prefix, Best>,
+    peers: Vec<PeerTables>,
+}
+
+// What a core works in. What it holds at the start doesn't matter.
+#[derive(Drop)]
+struct Workspace {
+    received: Overlay,
+    route: Overlay,
+    exporter: Exporter,
+}
 
 // The route of a local network.
 fn own_overlay(alloc: Global, config: &Config) -> Result<Overlay, AllocError>
@@ -73,25 +89,58 @@ fn local_networks(
     Ok(best)
 }
 
+impl FirstTables {
+    fn make(alloc: Global, config: &Config) -> Result<FirstTables, AllocError>
+        ensures { IfOk result (AreFirst config.now) }
+    {
+        let own = own_route(alloc, config)?;
+        let best = local_networks(alloc, &config.networks, &own)?;
+        let peers = empty_tables(alloc, config.peers.len())?;
+        Ok(FirstTables { own, best, peers })
+    }
+}
+
+impl Workspace {
+    fn make(alloc: Global) -> Result<Workspace, AllocError> {
+        Ok(Workspace {
+            received: Overlay::make(alloc)?,
+            route: Overlay::make(alloc)?,
+            exporter: Exporter::make(alloc)?,
+        })
+    }
+}
+
+// A core of its parts, and of an engine that was not called yet.
+fn core_of(
+    alloc: Global,
+    setup: Setup,
+    tables: FirstTables,
+    workspace: Workspace,
+) -> Result<Core, AllocError>
+    requires { AreFirst setup.config tables }
+    ensures { IfOk result (IsStarted setup) }
+{
+    let Setup { config, manifest } = setup;
+    let engine = Engine::make(alloc, manifest, local_of(&config))?;
+    Ok(Core {
+        config,
+        engine,
+        own: tables.own,
+        best: tables.best,
+        peers: tables.peers,
+        received: workspace.received,
+        route: workspace.route,
+        exporter: workspace.exporter,
+    })
+}
+
 impl Core {
     /// The routes before the first event: the local networks are best.
     pub(crate) fn make(alloc: Global, setup: Setup) -> Result<Core, AllocError>
         ensures { IfOk result (IsStarted setup) }
     {
-        let Setup { config, manifest } = setup;
-        let engine = Engine::make(alloc, manifest, local_of(&config))?;
-        let own = own_route(alloc, &config)?;
-        let best = local_networks(alloc, &config.networks, &own)?;
-        let peers = empty_tables(alloc, config.peers.len())?;
-        Ok(Core {
-            config,
-            engine,
-            own,
-            best,
-            peers,
-            received: Overlay::make(alloc)?,
-            route: Overlay::make(alloc)?,
-            exporter: Exporter::make(alloc)?,
-        })
+        let tables = FirstTables::make(alloc, &setup.config)?;
+        let workspace = Workspace::make(alloc)?;
+        core_of(alloc, setup, tables, workspace)
     }
 }
