@@ -7,3 +7,4 @@ mod SoundLemmas
 mod JudgeLemmas
 mod WalkLemmas
 mod ListedLemmas
+mod StartLemmas

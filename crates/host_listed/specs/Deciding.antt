@@ -48,6 +48,7 @@ pub record IsWinner (config : Config) (old new : Kept) (tables : List Tables) (s
   pub best_is : best ≡ winner_of old.manifest old.local old.engine prefix (candidates_in config sessions tables prefix)
   pub source : IfSome best (λ b. b.source ≤ length config.peers)
   pub engine :
-      new.engine ≡ (choose old.manifest old.local old.engine prefix (candidates_in config sessions tables prefix)).engine
+      new.engine
+      ≡ (choose old.manifest old.local old.engine prefix (candidates_in config sessions tables prefix)).engine
   pub manifest : new.manifest ≡ old.manifest
   pub local : new.local ≡ old.local

@@ -1,9 +1,27 @@
 -- The routes before the first event (for `Core::make`).
-use Rattle.std.specs.Prelude.{◌≡◌}
+use Rattle.std.specs.Prelude.{◌≡◌, List, [], fold, length, replicate}
+use Rattle.xb_words.specs.Table.{with_value}
+use Rattle.xb_values.specs.Prefixes.{Prefix, prefix_cmp}
+use Rattle.bgp_attr.specs.Routes.{Route}
+use Rattle.xbgp_config.specs.Configs.{Config}
 use Rattle.spk_model.specs.declared.host.Setup.{Setup}
+use Rattle.spk_model.specs.Sources.{local_route}
+use Rattle.spk_model.specs.Routing.{Chosen, no_tables}
 use Rattle.spk_model.specs.Turning.{start_routing}
 use Rattle.host_listed.specs.declared.routing.Core.{Core}
+use Rattle.host_listed.specs.declared.start.FirstTables.{FirstTables}
 use Rattle.host_listed.specs.Meaning.{IsReady, setup_of, routing_of}
+
+-- best routes, after each of some networks got the speaker's own route
+abbrev pub with_networks : Route → List (Prefix × Chosen) → List Prefix → List (Prefix × Chosen)
+with_networks own best networks =
+    fold (λ b p. with_value prefix_cmp b p (record { source = 0; route = own })) best networks
+
+-- the tables before the first event: the local networks are best, and the peers sent nothing
+pub record AreFirst (config : Config) (t : FirstTables) : Type 0 where
+  pub own : t.own ≡ record { source = 0; route = local_route config }
+  pub best : t.best.entries ≡ with_networks (local_route config) [] config.networks
+  pub peers : t.peers.items ≡ replicate (length config.peers) no_tables
 
 -- a core of a setup before the first event
 pub record IsStarted (setup : Setup) (c : Core) : Type 0 where

@@ -96,7 +96,8 @@ impl Core {
     pub(crate) fn rescan(&mut self, alloc: Global, sessions: &[Session]) -> Result<(), AllocError>
         requires ready { IsReady self.old }
         requires all { length sessions.now ≡ length self.old.config.peers }
-        ensures { Goes result (λ setup t. settle_all setup sessions.now t (known_prefixes setup t.routing)) self.old self.new }
+        ensures { Goes result
+            (λ setup t. settle_all setup sessions.now t (known_prefixes setup t.routing)) self.old self.new }
     {
         let prefixes = known(alloc, &self.config, &self.peers)?;
         self.settle_set(alloc, sessions, prefixes)

@@ -126,7 +126,9 @@ impl Core {
         requires side { side.now ≡ side_in self.old.config sessions.now peer }
         requires sound { IsSound self.old.received.route }
         requires whole { are_prefixes nlri.now ≡ true }
-        ensures { Goes result (λ setup t. fold (announce_one setup sessions.now now self.old.received.route peer) t (prefixes nlri.now)) self.old self.new }
+        ensures { Goes result
+            (λ setup t. fold (announce_one setup sessions.now now self.old.received.route peer) t (prefixes nlri.now))
+            self.old self.new }
     {
         let mut rest = EachPrefix::new(nlri);
         'prefixes: while let Some(prefix) = rest.next() {
@@ -153,7 +155,9 @@ impl Core {
         requires short { length body.now ≤ MAX_BODY }
         requires sound { IsSound self.old.received.route }
         requires whole { are_prefixes nlri.now ≡ true }
-        ensures { Goes result (λ setup t. receive_route setup sessions.now now t peer body.now (prefixes nlri.now) self.old.received.route) self.old self.new }
+        ensures { Goes result (λ setup t.
+            receive_route setup sessions.now now t peer body.now (prefixes nlri.now) self.old.received.route)
+            self.old self.new }
     {
         let outcome = self
             .engine
@@ -217,7 +221,9 @@ impl Core {
             (not (length parts.now.nlri == 0)) ≡ None }
         requires whole { are_prefixes parts.now.withdrawn ≡ true }
         requires announced { are_prefixes parts.now.nlri ≡ true }
-        ensures { Goes result (λ setup t. routes_of setup sessions.now now t peer body.now parts.now (prefixes parts.now.nlri)) self.old self.new }
+        ensures { Goes result
+            (λ setup t. routes_of setup sessions.now now t peer body.now parts.now (prefixes parts.now.nlri))
+            self.old self.new }
     {
         let mut announced = EachPrefix::new(parts.nlri());
         let Some(_) = announced.next() else {
