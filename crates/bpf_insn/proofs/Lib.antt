@@ -1,3 +1,4 @@
 pub mod HelperLemmas
 pub mod SecondLemmas
 pub mod LoadLemmas
+pub mod InsnLemmas

@@ -1,5 +1,5 @@
 -- What follows from code in which the loader finds no fault.
-use Rattle.std.proofs.Common.{◌≡◌, ◌≢◌, refl, sym, ap, ◌∙◌, subst, ℕ, zero, suc, ◌+◌, ◌-◌, ◌*◌, ◌%◌, ◌<◌, ◌≤◌, Bool}
+use Rattle.std.proofs.Common.{◌≡◌, ◌≢◌, refl, sym, ap, ◌∙◌, subst, ℕ, zero, suc, ◌+◌, ◌-◌, ◌%◌, ◌<◌, ◌≤◌, Bool}
 use Rattle.std.proofs.Common.{true, false, List, [], ◌∷◌, length, get_or, Option, Some, None, option_map, arith, inl}
 use Rattle.std.proofs.Common.{inr, ◌^◌}
 use Rattle.std.specs.Prelude.{ℤ, pos, negsuc, ◌+ℤ◌, not, filter, nat_lt, ◌==◌, ◌&&◌, ◌||◌, if◌then◌else◌}
@@ -209,14 +209,6 @@ module _ (allowed : ℕ → Bool) (code : List ℕ) (seconds : List Bool) (i : �
   -- an instruction with a fault
   pub left-some : (kind : LoadKind) → get_or seconds i false ≡ false → slot_fault allowed code i ≡ Some kind → left (length seconds - i) i ≡ Some (fault_at i kind)
   left-some kind h k = turn ∙ rw (is_second-get_or ∙ h, k) refl
-
--- the second slot of a 64-bit load is inside the code
-pub second_slot-inside : (code : List ℕ) → IsAccepted code → (i : ℕ) → begins code i ≡ true → (op : ℕ) → op ≡ opcode_of code i → is_wide op ≡ true → SLOT_SIZE * (i + 1) + SLOT_SIZE ≤ length code
-second_slot-inside code a i b op e w =
-    let second = and_parts _ _ ((IsSound-begins code a i b).pair (ap (λ o. is_wide o) (sym e) ∙ w)) in
-    let inside : i + 1 < slots code = ltb-true (i + 1) (slots code) second.0 in
-    let whole = a.whole in
-    omega (arith, inside, whole)
 
 -- the first instruction begins at slot 0
 pub begins-first : (code : List ℕ) → IsAccepted code → begins code 0 ≡ true

@@ -4,3 +4,4 @@ pub mod Forms
 pub mod Loading
 pub mod Seconds
 pub mod Sound
+pub mod Decoded

@@ -6,30 +6,34 @@ ghost use Rattle.bpf_insn.specs.Loading.{begins, load_fault};
 ghost use Rattle.bpf_insn.specs.Sound.{IsAccepted, IsSound, CallsOnly};
 
 use crate::checks::load_fault;
+use crate::decode::decode_all;
 use crate::fault::{LoadError, LoadFault};
-use crate::forms::is_wide;
 use crate::helpers::HelperSet;
 use crate::insn::Insn;
 use crate::limits::SLOT_SIZE;
-use crate::slot::Slot;
 use std::alloc::Global;
 use std::marker::Model;
 
-/// Bytecode that `load` accepted, as the octets that were loaded. Slots are numbered from 0.
+/// Bytecode that `load` accepted: the octets that were loaded, and their instructions. Slots are numbered from 0.
 #[derive(Drop)]
 pub struct Code {
     octets: Vec<u8>,
+    // The instruction of each slot, decoded once: a run takes millions of them.
+    insns: Vec<Insn>,
 }
 
 impl Model for Code {
     ghost use Rattle.std.specs.Prelude.{ℕ, List};
+    ghost use Rattle.bpf_insn.specs.Slots.{slots};
     ghost use Rattle.bpf_insn.specs.Sound.{IsAccepted};
+    ghost use Rattle.bpf_insn.specs.Decoded.{AreInsns};
 
     ghost Value = { List ℕ };
 
     ghost view = { λ c. c.octets.items };
 
-    ghost invariant = { λ c. IsAccepted c.octets.items };
+    ghost invariant = { λ c. IsAccepted c.octets.items
+        × AreInsns c.octets.items (slots c.octets.items) c.insns.items };
 }
 
 /// Loads bytecode that may call the helpers of `allowed`. The errors are its first fault, and want of memory.
@@ -44,7 +48,8 @@ pub fn load(alloc: Global, bytes: &[u8], allowed: &HelperSet) -> Result<Code, Lo
         return Err(LoadError::Bad(fault));
     }
     let octets = Vec::from_slice(alloc, bytes)?;
-    Ok(Code { octets })
+    let insns = decode_all(alloc, bytes)?;
+    Ok(Code { octets, insns })
 }
 
 impl Code {
@@ -67,25 +72,13 @@ impl Code {
     }
 
     /// The instruction at slot `i`, which may not be the second slot of a 64-bit load.
+    #[inline(always)]
     pub fn at(&self, i: u32) -> Insn
         requires { IsTrue (begins self.now i) }
         ensures value { result ≡ insn_at self.now i }
         ensures low_half { result.imm % 2 ^ 32 ≡ raw_imm self.now i }
         ensures sound { IsSound self.now i }
     {
-        let slot = Slot::read(&self.octets, i as usize);
-        let imm = if is_wide(slot.opcode) {
-            let high = Slot::read(&self.octets, i as usize + 1).imm;
-            u64::from(slot.imm) + (1 << 32) * u64::from(high)
-        } else {
-            i64::from(slot.imm.cast_signed()).cast_unsigned()
-        };
-        Insn {
-            opcode: slot.opcode,
-            dst: slot.dst,
-            src: slot.src,
-            offset: slot.offset.cast_signed(),
-            imm,
-        }
+        self.insns[i as usize]
     }
 }

@@ -2,8 +2,8 @@
 //!
 //! Bytecode is a list of slots of eight octets. `load` checks it once and returns either its first fault, by kind and
 //! slot, or `Code`, which keeps the octets as they were loaded. The checks are made in a fixed order: the length, then
-//! slot by slot each instruction (its form, its registers, its jump, its helper), then the end. `Code::at` decodes an
-//! instruction from these octets each time it is asked for; nothing is translated.
+//! slot by slot each instruction (its form, its registers, its jump, its helper), then the end. Then each slot is
+//! decoded once, and `Code::at` looks an instruction up, since a run asks for one at each step.
 //!
 //! What the loader guarantees is in `specs/Sound`: each jump of accepted code goes to an instruction, r10 is never
 //! written, only allowed helpers are called, and after each instruction that may go on there is another one. So a
@@ -15,6 +15,7 @@
 
 mod checks;
 mod code;
+mod decode;
 mod fault;
 pub mod forms;
 mod helpers;

@@ -1,11 +1,16 @@
-use Rattle.std.proofs.Common.{sym, ◌∙◌}
-use Rattle.bpf_insn.proofs.LoadLemmas.{IsSound-begins, second_slot-inside}
+use Rattle.std.proofs.Common.{ap, ◌∙◌, ◌<◌, ◌%◌, ◌^◌}
+use Rattle.bpf_insn.specs.Slots.{slots}
+use Rattle.bpf_insn.proofs.InsnLemmas.{begins-slots}
+use Rattle.bpf_insn.proofs.LoadLemmas.{IsSound-begins}
 use Rattle.bpf_insn.proofs.code.Code.at.Goals as goal
 
-pub read-high-requires : goal.read-high-requires
-read-high-requires c =
-    rw c.deref-then-is_wide.ensures.value (
-    second_slot-inside _ c.self.invariant c.args.i (rw (← c.self.view_is) at c.requires) c.read-slot.result.opcode (rw c.deref.ensures.value at c.read-slot.ensures.opcode) (sym c.is_wide.ensures ∙ c.if-is_wide.true))
+pub returns-clause-low_half : goal.returns-clause-low_half
+returns-clause-low_half c =
+    let below : c.args.i < slots c.self.inside.octets.items = begins-slots _ _ (rw (← c.self.view_is) at c.requires) in
+    rw (← c.self.view_is) (
+    ap (λ x. x.imm % 2 ^ 32) (c.index.ensures ∙ c.self.invariant.1.each c.args.i c.index.result.now below)
+    ∙ c.self.invariant.1.low_half c.args.i below)
 
 pub returns-clause-sound : goal.returns-clause-sound
-returns-clause-sound c = rw (← c.self.view_is) (IsSound-begins _ c.self.invariant _ (rw (← c.self.view_is) at c.requires))
+returns-clause-sound c =
+    rw (← c.self.view_is) (IsSound-begins _ c.self.invariant.0 _ (rw (← c.self.view_is) at c.requires))
