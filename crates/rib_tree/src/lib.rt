@@ -1,0 +1,7 @@
+//! A prefix tree: a finite map from prefixes to values, whose look-ups are bounded in steps.
+#![tactic(auto)]
+
+mod block;
+mod node;
+mod page;
+mod walk;
