@@ -3,14 +3,17 @@
 use Rattle.std.proofs.Common.{◌≡◌, ◌<◌, ◌≤◌, Bool, true, false, inl, inr, zero, suc, List, [], ◌∷◌, ◌++◌, length, take, drop}
 use Rattle.std.proofs.Common.{Option, Some, None, ℕ, refl, sym, ◌∙◌, ap, arith}
 use Rattle.std.proofs.Math.Numerals.{one-add}
-use Rattle.std.specs.Prelude.{slice_get, slice_set, find, filter, is_some, nat_lt}
+use Rattle.std.specs.Prelude.{slice_get, slice_set, find, is_some, nat_lt, remove}
+use Rattle.std.specs.List.{insert as list_insert}
+use Rattle.std.specs.Option.{option_map}
 use Rattle.std.specs.Cmp.{IsTotalOrder}
 use Rattle.std.specs.List.{AllByRecursion}
-use Rattle.std.specs.Ordering.{is_gt, is_lt, ordering_reverse}
+use Rattle.std.specs.Ordering.{is_gt, is_lt, is_eq, ordering_reverse}
 use Rattle.std.specs.declared.cmp.Ordering.{Ordering}
 use Rattle.std.specs.declared.cmp.Ordering.TheVariants.{Less, Equal, Greater}
 use Rattle.std.proofs.lemmas.Bool.{cases_Bool, ltb-true, ltb-false}
 use Rattle.xb_words.specs.Table.{value_at, with_value, without, entry_after, first_of, IsRising}
+use Rattle.xb_words.proofs.TableLemmas.{without-absent}
 use Rattle.xb_words.proofs.TableSplitLemmas.{Each, Each-trans, IsRising-head, IsRising-tail, IsRising-cons, value_at-above}
 use Rattle.xb_values.specs.Prefixes.{Prefix, prefix_cmp}
 use Rattle.xb_values.proofs.PrefixLemmas.{prefix_total, prefix_exact}
@@ -112,8 +115,60 @@ module _ {V : Type 0} where
 
   -- the keys before and after an index rise
   pub IsRising-drop : (n : ℕ) (es : List (Prefix × V)) → IsRising prefix_cmp es → IsRising prefix_cmp (drop n es)
-  IsRising-drop n [] rising = rising
-  IsRising-drop zero (e ∷ es) rising = rising
+  IsRising-drop zero es rising = rising
+  IsRising-drop (suc n) [] rising = rising
   IsRising-drop (suc n) (e ∷ es) rising = IsRising-drop n es (IsRising-tail prefix_cmp prefix_total e es rising)
+
+-- what an entry at an index says of a look-up
+module _ {K X : Type 0} (c : K → K → Ordering) (k : K) where
+  pub value_if-there : (o : Option (K × X)) (w : X) → is_some (value_if c k o) ≡ true → option_map (λ e. e.1) o ≡ Some w
+      → value_if c k o ≡ Some w
+  value_if-there None w there is = absurd (cc there)
+  value_if-there (Some e) w there is = elim (cases_Bool (is_eq (c k e.0))) [
+    | inl same ↦ rw same is
+    | inr other ↦ absurd (cc (rw other at there))
+  ]
+
+  pub value_if-absent : (o : Option (K × X)) → is_some (value_if c k o) ≡ false → value_if c k o ≡ None
+  value_if-absent None absent = refl
+  value_if-absent (Some e) absent = elim (cases_Bool (is_eq (c k e.0))) [
+    | inl same ↦ absurd (cc (rw same at absent))
+    | inr other ↦ rw other refl
+  ]
+
+module _ {V : Type 0} (k : Prefix) (es : List (Prefix × V)) (n : ℕ) (at : n ≡ place_of prefix_cmp k es) where
+  -- what `put` and `take_out` do where the prefix is there
+  pub there_value : (w : V) → IsRising prefix_cmp es → is_some (value_if prefix_cmp k (slice_get es n)) ≡ true
+      → option_map (λ e. e.1) (slice_get es n) ≡ Some w → Some w ≡ value_at prefix_cmp es k
+  there_value w rising there is =
+      sym (look_up_page k es rising ∙ ap (λ (i : ℕ). value_if prefix_cmp k (slice_get es i)) (sym at)
+      ∙ value_if-there prefix_cmp k (slice_get es n) w there is)
+
+  pub there_with : (v : V) → is_some (value_if prefix_cmp k (slice_get es n)) ≡ true
+      → slice_set es n (k, v) ≡ with_value prefix_cmp es k v
+  there_with v there =
+      ap (λ (i : ℕ). slice_set es i (k, v)) at
+      ∙ sym (with_value-there prefix_cmp prefix_total prefix_exact k v es (rw at at there))
+
+  pub there_without : is_some (value_if prefix_cmp k (slice_get es n)) ≡ true → remove es n ≡ without prefix_cmp es k
+  there_without there =
+      ap (λ (i : ℕ). remove es i) at ∙ sym (without-there prefix_cmp prefix_total k es (rw at at there))
+
+  -- and where it is not
+  pub absent_value : IsRising prefix_cmp es → is_some (value_if prefix_cmp k (slice_get es n)) ≡ false
+      → value_at prefix_cmp es k ≡ None
+  absent_value rising absent =
+      look_up_page k es rising ∙ ap (λ (i : ℕ). value_if prefix_cmp k (slice_get es i)) (sym at)
+      ∙ value_if-absent prefix_cmp k (slice_get es n) absent
+
+  pub absent_with : (v : V) → is_some (value_if prefix_cmp k (slice_get es n)) ≡ false
+      → list_insert es n (k, v) ≡ with_value prefix_cmp es k v
+  absent_with v absent =
+      ap (λ (i : ℕ). list_insert es i (k, v)) at
+      ∙ sym (with_value-absent prefix_cmp prefix_total k v es (rw at at absent))
+
+  pub absent_without : IsRising prefix_cmp es → is_some (value_if prefix_cmp k (slice_get es n)) ≡ false
+      → es ≡ without prefix_cmp es k
+  absent_without rising absent = sym (without-absent prefix_cmp es k (absent_value rising absent))
 
 pub ruleset look_up = (look_up_page)

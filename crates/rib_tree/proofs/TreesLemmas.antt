@@ -22,9 +22,6 @@ two_halves zero some = absurd (omega arith)
 two_halves (suc b) some = let b_is : suc b - 1 ≡ b = omega arith in rw b_is (two-pow-succ b)
 
 module _ {V : Type 0} where
-  Entries : Type 0
-  Entries = List (Prefix × V)
-
   all_wider : (first bits from size : ℕ) (es : List (Prefix × V)) → first ≤ from → from + 2 ^ size ≤ first + 2 ^ bits
       → AllIn from size es → AllIn first bits es
   all_wider first bits from size [] low high a = tt
@@ -138,8 +135,10 @@ module _ {V : Type 0} where
         (each_before k first (bits - 1) (entries_of low) upper (all_in _ _ low tree))
 
   -- the first entry is that of the lower half, if it has one
-  pub first_of-halves : (low high : Node V) → first_of (entries_of low ++ entries_of high)
+  pub first_of_halves : (low high : Node V) → first_of (entries_of low ++ entries_of high)
       ≡ option_or (first_of (entries_of low)) (first_of (entries_of high))
-  first_of-halves low high = append.first_of-append (entries_of low) (entries_of high)
+  first_of_halves low high = append.first_of-append (entries_of low) (entries_of high)
 
 pub ruleset find_at = (value_at-low, value_at-high)
+
+pub ruleset walk = (first_of_halves, entry_after-low, entry_after-high)

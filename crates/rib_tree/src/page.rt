@@ -38,6 +38,13 @@ fn value_if_at<V>(entries: &[(Prefix, V)], at: usize, key: Prefix) -> Option<&V>
     if *prefix == key { Some(value) } else { None }
 }
 
+// Whether the entry at an index is one of the prefix.
+fn is_at<V>(entries: &[(Prefix, V)], at: usize, key: Prefix) -> bool
+    ensures { result ≡ is_some (value_if prefix_cmp key (slice_get entries.now at)) }
+{
+    value_if_at(entries, at, key).is_some()
+}
+
 /// The value at a prefix.
 #[tactic(auto, using(crate::proofs::PageLemmas::look_up))]
 pub(crate) fn value_in<V>(entries: &[(Prefix, V)], key: Prefix) -> Option<&V>
@@ -55,11 +62,18 @@ pub(crate) fn first_in<V>(entries: &[(Prefix, V)]) -> Option<Prefix>
     Some(*prefix)
 }
 
-// The first entry after a prefix.
-fn find_after<V>(entries: &[(Prefix, V)], key: Prefix) -> Option<&(Prefix, V)>
+// The first entry whose prefix is greater.
+fn find_greater<V>(entries: &[(Prefix, V)], key: Prefix) -> Option<&(Prefix, V)>
     ensures { option_map (λ e. e.now) result ≡ find (λ e. is_gt (prefix_cmp e.0 key)) entries.now }
 {
     entries.iter().find(|e| e.0 > key)
+}
+
+// The first entry after a prefix.
+fn find_after<V>(entries: &[(Prefix, V)], key: Prefix) -> Option<&(Prefix, V)>
+    ensures { option_map (λ e. e.now) result ≡ entry_after prefix_cmp entries.now (Some key) }
+{
+    find_greater(entries, key)
 }
 
 /// The first prefix after another.
@@ -111,7 +125,7 @@ pub(crate) fn put<V>(entries: &mut Page<V>, key: Prefix, value: V) -> Result<Opt
     ensures back { IfErr result (λ v. v ≡ value) }
 {
     let at = place(entries, key);
-    if value_if_at(entries, at, key).is_some() {
+    if is_at(entries, at, key) {
         return Ok(Some(replace(entries, at, key, value)));
     }
     match insert_at(entries, at, key, value) {
@@ -127,7 +141,7 @@ pub(crate) fn take_out<V>(entries: &mut Page<V>, key: Prefix) -> Option<V>
     ensures after { entries.new.items ≡ without prefix_cmp entries.old.items key }
 {
     let at = place(entries, key);
-    if value_if_at(entries, at, key).is_some() {
+    if is_at(entries, at, key) {
         Some(remove_at(entries, at))
     } else {
         None

@@ -36,3 +36,42 @@ pub(crate) fn find<'t, V, L>(
         }
     }
 }
+
+/// The first prefix.
+#[tactic(auto, using(crate::proofs::TreesLemmas::first_of_halves))]
+pub(crate) fn first<V>(tree: &Subtree<V>) -> Option<Prefix>
+    ensures { result ≡ option_map (λ e. e.0) (first_of (entries_of tree.now.node)) }
+{
+    match tree.read(&mut Steps::start()) {
+        Node::Leaf(page) => first_in(page),
+        Node::Fork(halves) => {
+            let halves = &**halves;
+            match first(&halves.low) {
+                None => first(&halves.high),
+                found => found,
+            }
+        }
+    }
+}
+
+/// The first prefix after another.
+#[tactic(auto, using(crate::proofs::TreesLemmas::walk))]
+pub(crate) fn first_after<V>(tree: &Subtree<V>, block: Block, key: Prefix) -> Option<Prefix>
+    requires { IsTree block.first block.bits tree.now.node }
+    ensures { result ≡ option_map (λ e. e.0) (entry_after prefix_cmp (entries_of tree.now.node) (Some key)) }
+{
+    match tree.read(&mut Steps::start()) {
+        Node::Leaf(page) => first_after_in(page, key),
+        Node::Fork(halves) => {
+            let halves = &**halves;
+            if key.addr() < block.middle() {
+                match first_after(&halves.low, block.low(), key) {
+                    None => first(&halves.high),
+                    found => found,
+                }
+            } else {
+                first_after(&halves.high, block.high(), key)
+            }
+        }
+    }
+}
