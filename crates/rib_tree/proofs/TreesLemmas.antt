@@ -1,5 +1,9 @@
 -- What the calls on the tree of a block of addresses are on the trees of its halves.
-use Rattle.std.proofs.Common.{◌≡◌, ◌<◌, ◌≤◌, ◌+◌, ◌-◌, ◌^◌, ℕ, zero, suc, List, [], ◌∷◌, ◌++◌, Option, Some, None}
+use Rattle.std.proofs.Common.{◌≡◌, ◌<◌, ◌≤◌, ◌+◌, ◌-◌, ◌^◌, ℕ, inl, inr, zero, suc, List, [], ◌∷◌, ◌++◌, Option, Some, None, true}
+use Rattle.std.specs.Prelude.{Result, Ok, Err, OnOk, OnErr, nat_lt}
+use Rattle.std.proofs.lemmas.Bool.{cases_Bool}
+use Rattle.xb_words.proofs.ListLemmas.{AllByRecursion-left, AllByRecursion-right}
+use Rattle.std.specs.List.Sorted.{IsStrictlySortedBy}
 use Rattle.std.proofs.Common.{refl, sym, ◌∙◌, ap, arith}
 use Rattle.std.proofs.Math.Nat.{two-pow-succ}
 use Rattle.std.specs.List.{AllByRecursion}
@@ -12,7 +16,7 @@ use Rattle.xb_values.specs.Prefixes.{Prefix, prefix_cmp}
 use Rattle.xb_values.proofs.PrefixLemmas.{prefix_total}
 use Rattle.rib_tree.specs.declared.node.Node.{Node, Leaf, Fork'}
 use Rattle.rib_tree.specs.Pages.{AllBelow, AllFrom}
-use Rattle.rib_tree.specs.Trees.{entries_of, IsIn, AllIn, IsTree}
+use Rattle.rib_tree.specs.Trees.{entries_of, is_leaf, nodes_to, IsIn, AllIn, IsTree}
 use Rattle.rib_tree.proofs.AddressLemmas.{before_by_address, after_by_address}
 use Rattle.rib_tree.proofs.AppendLemmas as append
 
@@ -20,6 +24,20 @@ use Rattle.rib_tree.proofs.AppendLemmas as append
 pub two_halves : (bits : ℕ) → 0 < bits → 2 ^ bits ≡ 2 ^ (bits - 1) + 2 ^ (bits - 1)
 two_halves zero some = absurd (omega arith)
 two_halves (suc b) some = let b_is : suc b - 1 ≡ b = omega arith in rw b_is (two-pow-succ b)
+
+-- the address of a prefix of a block is one of the lower half
+pub IsIn-low : (first bits : ℕ) (k : Prefix) → IsIn first bits k → k.addr < first + 2 ^ (bits - 1) → IsIn first (bits - 1) k
+IsIn-low first bits k key lower = record { least = key.least; most = lower }
+
+-- or of the upper one
+pub IsIn-high : (first bits : ℕ) (k : Prefix) → 0 < bits → IsIn first bits k → first + 2 ^ (bits - 1) ≤ k.addr
+    → IsIn (first + 2 ^ (bits - 1)) (bits - 1) k
+IsIn-high first bits k some key upper =
+    record { least = upper; most = omega (arith, key.most, two_halves bits some) }
+
+rising_none : (V : Type 0) → IsRising {X = V} prefix_cmp []
+unfolding IsStrictlySortedBy
+rising_none V = tt
 
 module _ {V : Type 0} where
   all_wider : (first bits from size : ℕ) (es : List (Prefix × V)) → first ≤ from → from + 2 ^ size ≤ first + 2 ^ bits
@@ -139,6 +157,94 @@ module _ {V : Type 0} where
       ≡ option_or (first_of (entries_of low)) (first_of (entries_of high))
   first_of_halves low high = append.first_of-append (entries_of low) (entries_of high)
 
+  -- a leaf of a half is one of the block
+  pub leaf-low : (first bits : ℕ) (t : Node V) → is_leaf t ≡ true → 0 < bits → IsTree first (bits - 1) t → IsTree first bits t
+  leaf-low first bits (Leaf page) leaf some tree = (tree.0, AllIn-low first bits page.items some tree.1)
+  leaf-low first bits (Fork' p low high) leaf some tree = absurd (cc leaf)
+
+  pub leaf-high : (first bits : ℕ) (t : Node V) → is_leaf t ≡ true → 0 < bits
+      → IsTree (first + 2 ^ (bits - 1)) (bits - 1) t → IsTree first bits t
+  leaf-high first bits (Leaf page) leaf some tree = (tree.0, AllIn-high first bits page.items some tree.1)
+  leaf-high first bits (Fork' p low high) leaf some tree = absurd (cc leaf)
+
+  -- no entries are a page of any block
+  pub page_of_none : (first bits : ℕ) (es : List (Prefix × V)) → es ≡ [] → IsRising prefix_cmp es × AllIn first bits es
+  page_of_none first bits [] none = (rising_none V, tt)
+  page_of_none first bits (e ∷ es) none = absurd (cc none)
+
+  -- a page keeps its order and its block after a write
+  pub page_with : (first bits : ℕ) (es : List (Prefix × V)) (k : Prefix) (v : V) → IsRising prefix_cmp es
+      → AllIn first bits es → IsIn first bits k
+      → IsRising prefix_cmp (with_value prefix_cmp es k v) × AllIn first bits (with_value prefix_cmp es k v)
+  page_with first bits es k v rising within key = (
+    IsRising-with_value prefix_cmp prefix_total es k v rising,
+    AllByRecursion-with_value prefix_cmp (λ (e : Prefix × V). IsIn first bits e.0) es k v key (λ e same h. h) within,
+  )
+
+  -- the same of a write that may find no memory
+  pub page_put : {T E : Type 0} (r : Result T E) (first bits : ℕ) (es new : List (Prefix × V)) (k : Prefix) (v : V)
+      → OnOk r (new ≡ with_value prefix_cmp es k v) → OnErr r (new ≡ es) → IsRising prefix_cmp es → AllIn first bits es
+      → IsIn first bits k → IsRising prefix_cmp new × AllIn first bits new
+  page_put (Ok x) first bits es new k v ok err rising within key = rw ok (page_with first bits es k v rising within key)
+  page_put (Err x) first bits es new k v ok err rising within key = rw err (rising, within)
+
+  -- and after a removal
+  pub page_without : (first bits : ℕ) (es : List (Prefix × V)) (k : Prefix) → IsRising prefix_cmp es → AllIn first bits es
+      → IsRising prefix_cmp (without prefix_cmp es k) × AllIn first bits (without prefix_cmp es k)
+  page_without first bits es k rising within = (
+    IsRising-without prefix_cmp prefix_total es k rising,
+    AllByRecursion-without prefix_cmp (λ (e : Prefix × V). IsIn first bits e.0) es k within,
+  )
+
+  -- the pages of a cut at the middle are of the halves
+  pub AllIn-below : (first bits : ℕ) (es : List (Prefix × V)) → AllIn first bits es → AllBelow (first + 2 ^ (bits - 1)) es
+      → AllIn first (bits - 1) es
+  AllIn-below first bits [] within below = tt
+  AllIn-below first bits (e ∷ es) within below =
+      (record { least = within.0.least; most = below.0 }, AllIn-below first bits es within.1 below.1)
+
+  pub AllIn-from : (first bits : ℕ) (es : List (Prefix × V)) → 0 < bits → AllIn first bits es
+      → AllFrom (first + 2 ^ (bits - 1)) es → AllIn (first + 2 ^ (bits - 1)) (bits - 1) es
+  AllIn-from first bits [] some within from = tt
+  AllIn-from first bits (e ∷ es) some within from = (
+    record { least = from.0; most = omega (arith, within.0.most, two_halves bits some) },
+    AllIn-from first bits es some within.1 from.1,
+  )
+
+  -- a page that was cut at the middle has two parts, of the halves
+  pub cut-low : (first bits : ℕ) (es ls rs : List (Prefix × V)) → ls ++ rs ≡ es → AllIn first bits es
+      → AllBelow (first + 2 ^ (bits - 1)) ls → AllIn first (bits - 1) ls
+  cut-low first bits es ls rs is within below =
+      AllIn-below first bits ls (AllByRecursion-left (λ (e : Prefix × V). IsIn first bits e.0) ls rs (rw is within)) below
+
+  pub cut-high : (first bits : ℕ) (es ls rs : List (Prefix × V)) → ls ++ rs ≡ es → 0 < bits → AllIn first bits es
+      → AllFrom (first + 2 ^ (bits - 1)) rs → AllIn (first + 2 ^ (bits - 1)) (bits - 1) rs
+  cut-high first bits es ls rs is some within from =
+      AllIn-from first bits rs some (AllByRecursion-right (λ (e : Prefix × V). IsIn first bits e.0) ls rs (rw is within)) from
+
+  -- a path has a node
+  pub nodes_some : (first bits : ℕ) (k : Prefix) (t : Node V) → 1 ≤ nodes_to first bits k t
+  nodes_some first bits k (Leaf page) = omega arith
+  nodes_some first bits k (Fork' p low high) = omega arith
+
+  -- and at most one more than the block has bits
+  pub nodes_most : (first bits : ℕ) (k : Prefix) (t : Node V) → IsTree first bits t → nodes_to first bits k t ≤ bits + 1
+  nodes_most first bits k (Leaf page) tree = omega arith
+  nodes_most first bits k (Fork' p low high) tree = elim (cases_Bool (nat_lt k.addr (first + 2 ^ (bits - 1)))) [
+    | inl lower ↦ rw lower (omega (arith, tree.0, nodes_most first (bits - 1) k low tree.1))
+    | inr upper ↦ rw upper (omega (arith, tree.0, nodes_most (first + 2 ^ (bits - 1)) (bits - 1) k high tree.2))
+  ]
+
+pub ruleset nodes = (nodes_some, nodes_most)
+
 pub ruleset find_at = (value_at-low, value_at-high)
+
+pub ruleset look_up = (find_at, nodes_some)
+
+pub ruleset leaf = (leaf-low, leaf-high)
+
+pub ruleset write = (find_at, with_value-low, with_value-high, IsIn-low, IsIn-high)
+
+pub ruleset removal = (find_at, without-low, without-high)
 
 pub ruleset walk = (first_of_halves, entry_after-low, entry_after-high)

@@ -1,5 +1,8 @@
 // Blocks of addresses.
 ghost use Rattle.std.specs.Prelude.{◌≡◌, ◌==◌, ◌+◌, ◌-◌, ◌^◌, ◌<◌, ◌≤◌};
+ghost use Rattle.rib_tree.specs.Trees.{IsIn};
+
+use xb_values::Prefix;
 
 /// The addresses that share all but their last `bits` bits with the first of them.
 #[derive(Clone, Copy)]
@@ -17,6 +20,16 @@ impl Block {
         ensures bits { result.bits ≡ 32 }
     {
         Block { first: 0, bits: 32 }
+    }
+
+    /// All addresses, with that of a prefix among them.
+    pub fn around(key: Prefix) -> Block
+        ensures first { result.first ≡ 0 }
+        ensures bits { result.bits ≡ 32 }
+        ensures key { IsIn result.first result.bits key }
+    {
+        let _ = key.addr();
+        Block::whole()
     }
 
     /// Whether the block has one address alone.

@@ -2,6 +2,10 @@
 #![tactic(auto)]
 
 mod block;
+mod change;
 mod node;
 mod page;
+mod tree;
 mod walk;
+
+pub use tree::Tree;

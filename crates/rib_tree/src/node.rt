@@ -1,7 +1,6 @@
 // The nodes of a tree.
-ghost use Rattle.std.specs.Prelude.{◌≡◌, ◌+◌, ◌-◌, ◌^◌, ◌<◌, [], IfOk};
-ghost use Rattle.rib_tree.specs.Trees.{entries_of};
-ghost use Rattle.rib_tree.specs.declared.node.Node.TheVariants.{Leaf, Fork};
+ghost use Rattle.std.specs.Prelude.{◌≡◌, ◌+◌, ◌-◌, ◌^◌, ◌<◌, ℕ, []};
+ghost use Rattle.rib_tree.specs.Trees.{entries_of, IsTree};
 
 use crate::page::Page;
 use std::alloc::Global;
@@ -40,7 +39,8 @@ impl<V> Subtree<V> {
 
     /// A leaf without entries.
     pub fn empty(alloc: Global) -> Subtree<V>
-        ensures { entries_of result.node ≡ [] }
+        ensures entries { entries_of result.node ≡ [] }
+        ensures tree { (first bits : ℕ) → IsTree first bits result.node }
     {
         Subtree::of(Node::Leaf(Vec::new(alloc)))
     }

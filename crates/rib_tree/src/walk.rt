@@ -3,7 +3,7 @@ ghost use Rattle.std.specs.Prelude.{◌≡◌, ◌+◌, ◌-◌, ◌^◌, ◌<�
 ghost use Rattle.std.specs.Option.{option_map};
 ghost use Rattle.xb_words.specs.Table.{entry_after, first_of, value_at};
 ghost use Rattle.xb_values.specs.Prefixes.{prefix_cmp};
-ghost use Rattle.rib_tree.specs.Trees.{entries_of, IsTree};
+ghost use Rattle.rib_tree.specs.Trees.{entries_of, nodes_to, IsTree};
 
 use crate::block::Block;
 use crate::node::{Node, Subtree};
@@ -11,7 +11,7 @@ use crate::page::{first_after_in, first_in, value_in};
 use xb_values::{Prefix, Steps};
 
 /// The value at a prefix.
-#[tactic(auto, using(crate::proofs::TreesLemmas::find_at))]
+#[tactic(auto, using(crate::proofs::TreesLemmas::look_up))]
 pub(crate) fn find<'t, V, L>(
     tree: &'t Subtree<V>,
     block: Block,
@@ -19,10 +19,9 @@ pub(crate) fn find<'t, V, L>(
     steps: &mut Steps<L>,
 ) -> Option<&'t V>
     requires tree { IsTree block.first block.bits tree.now.node }
-    requires steps { steps.old + block.bits + 1 < 2 ^ 64 }
+    requires steps { steps.old + nodes_to block.first block.bits key tree.now.node < 2 ^ 64 }
     ensures value { option_map (λ v. v.now) result ≡ value_at prefix_cmp (entries_of tree.now.node) key }
-    ensures least { steps.old < steps.new }
-    ensures most { steps.new ≤ steps.old + block.bits + 1 }
+    ensures steps { steps.new ≡ steps.old + nodes_to block.first block.bits key tree.now.node }
 {
     match tree.read(steps) {
         Node::Leaf(page) => value_in(page, key),
