@@ -1,4 +1,4 @@
-use Rattle.std.proofs.Common.{◌≡◌, ◌<◌, ◌≤◌, ◌+◌, ◌-◌, ◌^◌, ◌++◌, sym, ◌∙◌, arith, rules}
+use Rattle.std.proofs.Common.{◌≡◌, ◌<◌, ◌≤◌, ◌+◌, ◌-◌, ◌^◌, ◌++◌, sym, ◌∙◌, arith}
 use Rattle.std.proofs.lemmas.Grind.{common_steps}
 use Rattle.xb_words.specs.Table.{without}
 use Rattle.xb_values.specs.Prefixes.{prefix_cmp}
@@ -29,23 +29,13 @@ returns-else-addr-middle-clause-entries g t c =
     let upper : b.first + 2 ^ (b.bits - 1) ≤ c.args.key.addr = omega (arith, c.addr.ensures.value, c.middle.ensures) in
     let parts : entries_of c.joined-else-addr-middle.result.node
         ≡ entries_of halves.low.node ++ without prefix_cmp (entries_of halves.high.node) c.args.key =
-        first_of (
-          rw (
-            c.joined-else-addr-middle.ensures.entries,
-            c.removed-high.ensures.entries,
-            c.take-high.ensures,
-            c.deref_mut-else-addr-middle-2.ensures.value,
-            c.deref_mut-else-addr-middle.ensures.value,
-          ),
-          cc (
-            c.joined-else-addr-middle.ensures.entries,
-            c.removed-high.ensures.entries,
-            c.take-high.ensures,
-            c.deref_mut-else-addr-middle-2.ensures.value,
-            c.deref_mut-else-addr-middle.ensures.value,
-          ),
-          search rules,
-          grind (arith, common_steps) steps 16000000,
-        ) in
+        rw (
+          c.joined-else-addr-middle.ensures.entries,
+          c.removed-high.ensures.entries,
+          c.take-high.ensures,
+          c.deref_mut-else-addr-middle-2.ensures.value,
+          c.deref_mut-else-addr-middle.ensures.value,
+        )
+        in
     rw is
     (parts ∙ sym (without-high b.first b.bits halves.low.node halves.high.node c.args.key tree.1 upper))
