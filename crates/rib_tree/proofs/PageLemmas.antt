@@ -109,8 +109,10 @@ module _ {V : Type 0} where
   AllFrom-drop a [] rising = tt
   AllFrom-drop a (e ∷ es) rising = elim (cases_Bool (nat_lt e.0.addr a)) [
     | inl is ↦ rw (is, one-add (place_at a es)) (AllFrom-drop a es (IsRising-tail prefix_cmp prefix_total e es rising))
-    | inr not ↦ rw not (ltb-false e.0.addr a not,
-        address_rises a e es (ltb-false e.0.addr a not) (IsRising-head prefix_cmp prefix_total e es rising))
+    | inr not ↦ rw not (
+      ltb-false e.0.addr a not,
+      address_rises a e es (ltb-false e.0.addr a not) (IsRising-head prefix_cmp prefix_total e es rising),
+    )
   ]
 
   -- the keys before and after an index rise

@@ -52,7 +52,12 @@ fn halved<V: Drop>(
 }
 
 // A leaf, or a fork in place of one that is full. An error is want of memory, and comes only if the prefix is absent.
-fn with_room<V: Drop>(alloc: Global, page: Page<V>, block: Block, key: Prefix) -> Result<Node<V>, Page<V>>
+fn with_room<V: Drop>(
+    alloc: Global,
+    page: Page<V>,
+    block: Block,
+    key: Prefix,
+) -> Result<Node<V>, Page<V>>
     requires rising { IsRising prefix_cmp page.items }
     requires within { AllIn block.first block.bits page.items }
     ensures entries { IfOk result (λ n. entries_of n ≡ page.items) }
@@ -70,7 +75,12 @@ fn with_room<V: Drop>(alloc: Global, page: Page<V>, block: Block, key: Prefix) -
 }
 
 // The same of any node.
-fn roomy<V: Drop>(alloc: Global, node: Node<V>, block: Block, key: Prefix) -> Result<Node<V>, Node<V>>
+fn roomy<V: Drop>(
+    alloc: Global,
+    node: Node<V>,
+    block: Block,
+    key: Prefix,
+) -> Result<Node<V>, Node<V>>
     requires { IsTree block.first block.bits node }
     ensures entries { IfOk result (λ n. entries_of n ≡ entries_of node) }
     ensures tree { IfOk result (λ n. IsTree block.first block.bits n) }

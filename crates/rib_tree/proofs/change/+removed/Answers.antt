@@ -15,8 +15,8 @@ returns-then-addr-middle-clause-entries g t c =
     let tree : IsTree b.first b.bits (Fork c.in-Fork.halves) = rw is at c.requires in
     let lower : c.args.key.addr < b.first + 2 ^ (b.bits - 1) = omega (arith, c.addr.ensures.value, c.middle.ensures) in
     let parts : entries_of c.joined.result.node
-        ≡ without prefix_cmp (entries_of halves.low.node) c.args.key ++ entries_of halves.high.node =
-        grind (arith, common_steps) in
+    ≡ without prefix_cmp (entries_of halves.low.node) c.args.key ++ entries_of halves.high.node =
+    grind (arith, common_steps) in
     rw is
     (parts ∙ sym (without-low b.first b.bits halves.low.node halves.high.node c.args.key tree.2 lower))
 
@@ -28,14 +28,14 @@ returns-else-addr-middle-clause-entries g t c =
     let tree : IsTree b.first b.bits (Fork c.in-Fork.halves) = rw is at c.requires in
     let upper : b.first + 2 ^ (b.bits - 1) ≤ c.args.key.addr = omega (arith, c.addr.ensures.value, c.middle.ensures) in
     let parts : entries_of c.joined-else-addr-middle.result.node
-        ≡ entries_of halves.low.node ++ without prefix_cmp (entries_of halves.high.node) c.args.key =
-        rw (
-          c.joined-else-addr-middle.ensures.entries,
-          c.removed-high.ensures.entries,
-          c.take-high.ensures,
-          c.deref_mut-else-addr-middle-2.ensures.value,
-          c.deref_mut-else-addr-middle.ensures.value,
-        )
-        in
+    ≡ entries_of halves.low.node ++ without prefix_cmp (entries_of halves.high.node) c.args.key =
+    rw (
+      c.joined-else-addr-middle.ensures.entries,
+      c.removed-high.ensures.entries,
+      c.take-high.ensures,
+      c.deref_mut-else-addr-middle-2.ensures.value,
+      c.deref_mut-else-addr-middle.ensures.value,
+    )
+    in
     rw is
     (parts ∙ sym (without-high b.first b.bits halves.low.node halves.high.node c.args.key tree.1 upper))
