@@ -25,7 +25,6 @@ use Rattle.spk_model.specs.Turning.{start_routing}
 use Rattle.spk_routes.proofs.StepLemmas.{drop-at}
 use Rattle.host_listed.specs.declared.routing.Core.{Core}
 use Rattle.host_listed.specs.declared.start.FirstTables.{FirstTables}
-use Rattle.host_listed.specs.Meaning.{setup_of, routing_of}
 use Rattle.host_listed.specs.Starting.{with_networks, AreFirst, IsStarted}
 
 -- whether a route with an attribute set fits

@@ -1,8 +1,6 @@
 use Rattle.std.proofs.Common.{◌∙◌, ap, arith}
-use Rattle.bgp_attr.specs.Routes.{Route}
 use Rattle.xb_words.specs.Table.{with_value}
 use Rattle.xb_values.specs.Prefixes.{prefix_cmp}
-use Rattle.spk_model.specs.Routing.{Chosen}
 use Rattle.host_listed.proofs.StartLemmas.{own_chosen, with_networks-next, with_networks-end}
 use Rattle.host_listed.proofs.start.local_networks.Goals as goal
 
