@@ -1,7 +1,7 @@
 -- The candidates that are gathered, the best of them, and what deciding leaves.
 use Rattle.std.proofs.Common.{◌≡◌, ◌≤◌, ◌<◌, ◌-◌, ◌+◌, refl, sym, ◌∙◌, ap, subst, ℕ, Bool, true, false, List, [], ◌∷◌}
 use Rattle.std.proofs.Common.{◌++◌, length, arith, get_or, Option, Some, None}
-use Rattle.std.specs.Prelude.{IfSome, if◌then◌else◌, slice_index_or}
+use Rattle.std.specs.Prelude.{IfSome, if◌then◌else◌}
 use Rattle.std.specs.Option.{option_map}
 use Rattle.std.specs.List.{slice_get, AllByRecursion}
 use Rattle.std.specs.BTreeMap.{BTreeMap}
@@ -18,7 +18,7 @@ use Rattle.xbgp_manifest.specs.Manifests.{Manifest}
 use Rattle.xbgp_points.specs.Engines.{Kept}
 use Rattle.xbgp_points.specs.Points.{Engine}
 use Rattle.spk_model.specs.declared.host.Setup.{Setup}
-use Rattle.spk_model.specs.Choosing.{Candidate, Choice, Trace}
+use Rattle.spk_model.specs.Choosing.{Candidate, Trace}
 use Rattle.spk_model.specs.Sources.{side_of, local_route, is_network}
 use Rattle.spk_model.specs.Tournaments.{choose}
 use Rattle.spk_model.specs.Routing.{Chosen, Routing, Routed, Tables, no_tables, best_of, candidates, decide, decided}
@@ -27,7 +27,7 @@ use Rattle.spk_routes.specs.Sound.{IsSound}
 use Rattle.spk_routes.proofs.CandidatesLemmas.{with_one, found_more, one_more, none_good, own_good}
 use Rattle.host_listed.specs.Deciding.{sent_in, candidates_to, candidates_in, winner_of, AreFound, IsWinner}
 use Rattle.host_listed.specs.declared.routing.Core.{Core}
-use Rattle.host_listed.specs.Meaning.{Does, IsReady, setup_of, routing_of, routed}
+use Rattle.host_listed.specs.Meaning.{Does, IsReady, setup_of, routed}
 
 -- before any peer
 pub found_first : (config : Config) (sessions : List Owned) (tables : List Tables) (prefix : Prefix) (l : Bool)

@@ -1,8 +1,8 @@
 -- What an export leaves.
-use Rattle.std.proofs.Common.{◌≡◌, ◌≤◌, ◌<◌, ◌-◌, refl, sym, ◌∙◌, ap, subst, ℕ, Bool, true, false, List, [], ◌++◌}
+use Rattle.std.proofs.Common.{◌≡◌, ◌≤◌, ◌<◌, ◌-◌, refl, sym, ◌∙◌, ap, subst, ℕ, Bool, true, false, List, ◌++◌}
 use Rattle.std.proofs.Common.{length, arith, Vec, Option, Some, None}
 use Rattle.std.specs.Prelude.{slice_index_or, if◌then◌else◌}
-use Rattle.std.specs.List.{slice_set, AllByRecursion}
+use Rattle.std.specs.List.{slice_set}
 use Rattle.std.specs.declared.alloc.Global.{Global}
 use Rattle.std.proofs.lemmas.List.{get_or_default}
 use Rattle.std.proofs.Math.ListN.{length-set}
@@ -15,11 +15,10 @@ use Rattle.bgp_fsm.specs.Sessions.{Owned, start_session}
 use Rattle.xbgp_manifest.specs.Manifests.{Manifest}
 use Rattle.xbgp_points.specs.Engines.{Kept}
 use Rattle.xbgp_points.specs.Points.{Engine}
-use Rattle.spk_model.specs.declared.host.Setup.{Setup}
 use Rattle.spk_model.specs.Choosing.{Trace}
 use Rattle.spk_model.specs.Sources.{session_of, is_established, is_up, is_wide, side_of}
 use Rattle.spk_model.specs.Exporting.{Exported, exported}
-use Rattle.spk_model.specs.Routing.{Routing, Routed, Tables, Chosen, no_tables, tables_of, with_tables, at_tables}
+use Rattle.spk_model.specs.Routing.{Routed, Tables, Chosen, no_tables, with_tables, at_tables}
 use Rattle.spk_model.specs.Routing.{set_adv, export, export_best, advertise}
 use Rattle.host_listed.specs.declared.routing.Core.{Core}
 use Rattle.host_listed.specs.Meaning.{Does, IsReady, setup_of, routing_of, routed}

@@ -1,5 +1,5 @@
 -- One function of a core after another.
-use Rattle.std.proofs.Common.{◌≡◌, refl, sym, ◌∙◌, ap, subst, ℕ, ◌+◌, List, [], ◌∷◌, ◌++◌, fold, length, arith}
+use Rattle.std.proofs.Common.{◌≡◌, refl, sym, ◌∙◌, ap, subst, ℕ, ◌+◌, List, [], ◌∷◌, fold, length, arith}
 use Rattle.std.specs.Prelude.{Result, Ok, Err, OnOk, MatchResult}
 use Rattle.std.specs.declared.alloc.AllocError.{AllocError}
 use Rattle.std.specs.List.{range_with_len}
@@ -13,7 +13,7 @@ use Rattle.bgp_fsm.specs.Sessions.{Owned}
 use Rattle.spk_model.specs.Routing.{Routing, Routed, export, export_all}
 use Rattle.spk_routes.proofs.RangeLemmas.{range_with_len-more}
 use Rattle.host_listed.specs.declared.routing.Core.{Core}
-use Rattle.host_listed.specs.Meaning.{Does, Goes, IsReady, setup_of, routing_of, routed}
+use Rattle.host_listed.specs.Meaning.{Does, Goes, IsReady, setup_of, routed}
 
 -- nothing was done
 pub does_nothing : (c : Core) → IsReady c → Does (λ setup t. t) c c

@@ -1,6 +1,6 @@
 -- The parts of an UPDATE without fault.
-use Rattle.std.proofs.Common.{◌≡◌, inl, inr, refl, sym, ◌∙◌, ap, ℕ, Bool, true, false, List, length, Option, Some, None}
-use Rattle.std.specs.Prelude.{not, ◌==◌}
+use Rattle.std.proofs.Common.{◌≡◌, inl, inr, refl, ◌∙◌, ap, ℕ, Bool, true, false, List, Option, Some, None}
+use Rattle.std.specs.Prelude.{not}
 use Rattle.std.proofs.lemmas.Bool.{cases_Bool}
 use Rattle.xb_words.specs.Optional.{or_else}
 use Rattle.xb_wire.specs.Messages.{Notification, Update, lengths_fit, update_of, update_parts}

@@ -1,6 +1,6 @@
 -- The route of a received section is sound, and what the code reads of it is the definition's.
-use Rattle.std.proofs.Common.{◌≡◌, ◌≤◌, ◌-◌, refl, sym, ◌∙◌, ap, subst, ℕ, Bool, true, List, length, None, get_or}
-use Rattle.std.specs.Prelude.{nat_le, IsTrue}
+use Rattle.std.proofs.Common.{◌≡◌, ◌≤◌, ◌-◌, sym, ◌∙◌, ap, subst, ℕ, Bool, true, List, length, None, get_or}
+use Rattle.std.specs.Prelude.{nat_le}
 use borrow.Author.Tests.{leb-true}
 use Rattle.xb_words.specs.Octets.{AreOctets}
 use Rattle.xb_wire.specs.declared.numbers.TheConstants.{MAX_MESSAGE}

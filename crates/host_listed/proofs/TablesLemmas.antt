@@ -1,5 +1,5 @@
 -- Tables whose routes are sound.
-use Rattle.std.proofs.Common.{◌≡◌, refl, sym, ◌∙◌, ap, subst, ℕ, List, Option, Some, None, Bor}
+use Rattle.std.proofs.Common.{◌≡◌, sym, subst, Option, Some, None, Bor}
 use Rattle.std.specs.Prelude.{Result, Ok, Err, IfSome, OnOk, OnErr}
 use Rattle.std.specs.Option.{option_map}
 use Rattle.std.specs.List.{AllByRecursion}

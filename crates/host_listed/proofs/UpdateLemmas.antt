@@ -1,6 +1,6 @@
 -- What an UPDATE leaves.
-use Rattle.std.proofs.Common.{◌≡◌, ◌≤◌, ◌<◌, ◌-◌, refl, sym, ◌∙◌, ap, subst, ℕ, Bool, true, false, List, [], ◌∷◌, ◌++◌}
-use Rattle.std.proofs.Common.{fold, filter, length, arith, get_or, Vec, Option, Some, None}
+use Rattle.std.proofs.Common.{◌≡◌, ◌≤◌, ◌-◌, refl, sym, ◌∙◌, ap, subst, ℕ, Bool, true, false, List, [], ◌∷◌, ◌++◌}
+use Rattle.std.proofs.Common.{fold, filter, length, arith, get_or, Vec}
 use Rattle.std.specs.Prelude.{if◌then◌else◌, not, nat_le, slice_index_or}
 use Rattle.std.specs.List.{slice_set, list_any}
 use Rattle.std.specs.declared.alloc.Global.{Global}
@@ -18,13 +18,10 @@ use Rattle.bgp_attr.specs.Routes.{Route, canon}
 use Rattle.bgp_fsm.specs.Sessions.{Owned}
 use Rattle.xbgp_view.specs.Views.{Routes, Edited}
 use Rattle.xbgp_config.specs.Configs.{same_prefix}
-use Rattle.xbgp_manifest.specs.Manifests.{Manifest}
 use Rattle.spk_native.specs.Filters.{accepts_inbound}
 use Rattle.xbgp_points.specs.declared.outcome.Outcome.{Outcome}
 use Rattle.xbgp_points.specs.Engines.{Kept, Answers}
 use Rattle.xbgp_points.specs.Points.{Engine, Called, inbound, receive}
-use Rattle.spk_model.specs.declared.host.Setup.{Setup}
-use Rattle.spk_model.specs.Choosing.{Trace}
 use Rattle.spk_model.specs.Sources.{side_of}
 use Rattle.spk_model.specs.Exporting.{accepted}
 use Rattle.spk_model.specs.Routing.{Routing, Routed, Tables, no_tables, at_tables, ran, set_routes, without_all}
@@ -32,7 +29,7 @@ use Rattle.spk_model.specs.Routing.{announce, announce_one, drop_all, receive_if
 use Rattle.spk_model.specs.Routing.{settle, settle_all, update, withdraw}
 use Rattle.spk_routes.proofs.SetLemmas.{has_key-set_of, filter-same}
 use Rattle.host_listed.specs.declared.routing.Core.{Core}
-use Rattle.host_listed.specs.Meaning.{Does, IsReady, setup_of, routing_of, routed}
+use Rattle.host_listed.specs.Meaning.{Does, IsReady, setup_of, routed}
 use Rattle.host_listed.proofs.ExportLemmas.{tables_at}
 use Rattle.host_listed.proofs.FollowingLemmas.{does_then, does_same}
 

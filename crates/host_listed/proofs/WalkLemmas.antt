@@ -1,5 +1,5 @@
 -- Walks over tables by their prefixes, and the sets that they make.
-use Rattle.std.proofs.Common.{◌≡◌, ◌<◌, ◌≤◌, ◌+◌, ◌-◌, get_or, refl, sym, ◌∙◌, ap, subst, ℕ, suc, List, [], ◌∷◌, ◌++◌}
+use Rattle.std.proofs.Common.{◌≡◌, ◌<◌, ◌≤◌, ◌+◌, ◌-◌, get_or, refl, sym, ◌∙◌, ap, ℕ, List, [], ◌∷◌, ◌++◌}
 use Rattle.std.proofs.Common.{drop, fold, flat_map, length, arith, Option, Some, None}
 use Rattle.std.specs.Map.{keys_of}
 use Rattle.std.specs.Option.{option_map}
@@ -10,8 +10,7 @@ use Rattle.xb_words.specs.Table.{entries_after, entry_after, set_of, with_key, w
 use Rattle.xb_words.proofs.TableLemmas.{entries_after-some, entries_after-none}
 use Rattle.xb_values.specs.Prefixes.{Prefix, prefix_cmp}
 use Rattle.bgp_fsm.specs.Sessions.{Owned}
-use Rattle.spk_model.specs.declared.host.Setup.{Setup}
-use Rattle.spk_model.specs.Routing.{Routed, Tables, no_tables, set_tables, settle, settle_all, lose}
+use Rattle.spk_model.specs.Routing.{Tables, no_tables, set_tables, settle, settle_all, lose}
 use Rattle.spk_model.specs.Turning.{known_prefixes}
 use Rattle.xb_values.proofs.PrefixLemmas.{prefix_total}
 use Rattle.spk_routes.proofs.StepLemmas.{drop-at}

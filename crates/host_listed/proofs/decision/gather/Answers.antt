@@ -1,4 +1,4 @@
-use Rattle.std.proofs.Common.{◌≡◌, ◌∙◌, sym, ap, subst, ◌+◌, ◌++◌, [], ◌∷◌, arith, ℕ, true, false, List, length, Some}
+use Rattle.std.proofs.Common.{◌≡◌, ◌∙◌, ap, subst, ◌++◌, [], ◌∷◌, arith, ℕ, true, false, List, length, Some}
 use Rattle.std.proofs.Common.{None}
 use Rattle.xb_domain.specs.declared.side.Side.{Side}
 use Rattle.bgp_attr.specs.Routes.{Route}

@@ -1,4 +1,4 @@
-use Rattle.std.proofs.Common.{◌≡◌, flat_map}
+use Rattle.std.proofs.Common.{flat_map}
 use Rattle.host_listed.proofs.WalkLemmas.{known_of, known_first, known_then, known_all}
 use Rattle.host_listed.proofs.rescan.known.Goals as goal
 

@@ -1,6 +1,5 @@
-use Rattle.std.proofs.Common.{◌≡◌, ap, Some}
+use Rattle.std.proofs.Common.{Some}
 use Rattle.std.specs.Map.{keys_of}
-use Rattle.std.specs.Option.{option_map}
 use Rattle.xb_words.specs.Table.{entries_after, with_keys}
 use Rattle.xb_values.specs.Prefixes.{prefix_cmp}
 use Rattle.host_listed.proofs.WalkLemmas.{walked, walked_less, one_key}

@@ -1,4 +1,4 @@
-use Rattle.std.proofs.Common.{◌≡◌, ◌≤◌, ◌∙◌, sym, ap, subst, ℕ, length}
+use Rattle.std.proofs.Common.{◌≤◌, ◌∙◌, sym, ap, subst, ℕ, length}
 use Rattle.std.specs.Prelude.{nat_le}
 use Rattle.std.proofs.Math.Facts.{Fits-lt-pow}
 use Rattle.host_listed.proofs.FollowingLemmas.{match_goes}

@@ -1,4 +1,4 @@
-use Rattle.std.proofs.Common.{◌≡◌, ◌∙◌, sym, ap, subst}
+use Rattle.std.proofs.Common.{◌∙◌, ap, subst}
 use Rattle.bgp_attr.specs.Routes.{Route}
 use Rattle.xbgp_view.specs.Views.{Edited}
 use Rattle.spk_model.specs.declared.host.Setup.{Setup}

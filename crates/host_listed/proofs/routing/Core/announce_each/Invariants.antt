@@ -1,6 +1,5 @@
 use Rattle.std.proofs.Common.{◌≡◌, length, fold}
 use Rattle.xb_values.specs.Prefixes.{prefixes}
-use Rattle.spk_model.specs.Sources.{side_of}
 use Rattle.spk_model.specs.Routing.{announce_one}
 use Rattle.host_listed.specs.Meaning.{Does, IsReady}
 use Rattle.host_listed.specs.declared.routing.Core.{Core}

@@ -1,4 +1,4 @@
-use Rattle.std.proofs.Common.{◌≡◌, ◌∙◌, ◌-◌, sym, ap, subst, ℕ, true, false}
+use Rattle.std.proofs.Common.{◌-◌, sym, ap, subst, ℕ, true, false}
 use Rattle.std.proofs.lemmas.Result.{on_ok_weaker}
 use Rattle.std.specs.Vec.{with_item}
 use Rattle.std.specs.List.{slice_set}

@@ -1,9 +1,8 @@
-use Rattle.std.proofs.Common.{◌≡◌, ◌≤◌, ◌-◌, ◌∙◌, sym, ap, subst, refl, ℕ, List, length, Some, None}
+use Rattle.std.proofs.Common.{◌≤◌, ◌-◌, ◌∙◌, sym, ap, subst, refl, ℕ, length, Some, None}
 use Rattle.host_listed.proofs.FollowingLemmas.{goes_ok}
 use Rattle.std.specs.Vec.{with_item}
 use Rattle.std.specs.List.{slice_set}
 use Rattle.spk_model.specs.Routing.{Tables}
-use Rattle.spk_model.specs.Sources.{is_established}
 use Rattle.host_listed.proofs.ExportLemmas.{not_exported, retracted, exports, source_within, ready_exported}
 use Rattle.host_listed.proofs.routing.Core.export.Goals as goal
 

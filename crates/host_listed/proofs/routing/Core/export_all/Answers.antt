@@ -1,9 +1,7 @@
-use Rattle.std.proofs.Common.{◌≡◌, ◌≤◌, ◌∙◌, ◌+◌, ◌∷◌, sym, ap, refl, subst, ℕ, List, length, drop, fold}
-use Rattle.std.specs.Map.{keys_of}
+use Rattle.std.proofs.Common.{◌≡◌, ◌∙◌, ◌+◌, ◌∷◌, sym, ap, refl, ℕ, List, drop}
 use Rattle.std.proofs.lemmas.List.{at_drop_more, drop_all}
 use Rattle.xb_values.specs.Prefixes.{Prefix}
 use Rattle.spk_model.specs.Routing.{export}
-use Rattle.host_listed.specs.Meaning.{Does}
 use Rattle.host_listed.proofs.FollowingLemmas.{does_first, does_none, does_peers, does_all}
 use Rattle.host_listed.proofs.routing.Core.export_all.Goals as goal
 

@@ -1,4 +1,4 @@
-use Rattle.std.proofs.Common.{◌≡◌, ◌≤◌, sym, subst, ℕ}
+use Rattle.std.proofs.Common.{◌≤◌, sym, subst, ℕ}
 use Rattle.host_listed.proofs.ExportLemmas.{tables_at}
 use Rattle.host_listed.proofs.FollowingLemmas.{goes_weaker}
 use Rattle.host_listed.proofs.WalkLemmas.{loses}

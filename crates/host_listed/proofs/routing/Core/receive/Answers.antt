@@ -1,4 +1,4 @@
-use Rattle.std.proofs.Common.{◌≡◌, ◌∙◌, sym, ap, subst, ℕ}
+use Rattle.std.proofs.Common.{subst, ℕ}
 use Rattle.host_listed.proofs.FollowingLemmas.{goes_weaker}
 use Rattle.xb_values.specs.Prefixes.{prefixes}
 use Rattle.xbgp_points.specs.Engines.{Answers}

@@ -1,4 +1,4 @@
-use Rattle.std.proofs.Common.{◌≡◌, ◌∙◌, ◌++◌, ap, List, flat_map}
+use Rattle.std.proofs.Common.{◌∙◌, ◌++◌, ap, List, flat_map}
 use Rattle.xb_words.specs.Table.{set_of}
 use Rattle.xb_values.specs.Prefixes.{prefix_cmp}
 use Rattle.spk_model.specs.Routing.{Tables}

@@ -1,4 +1,4 @@
-use Rattle.std.proofs.Common.{◌≡◌, ◌∙◌, sym, ap, subst, refl, ◌+◌, arith, ℕ, length, fold}
+use Rattle.std.proofs.Common.{◌≡◌, subst, refl, arith, ℕ, length, fold}
 use Rattle.std.specs.List.{range_with_len}
 use Rattle.spk_model.specs.Routing.{decide, export, settle}
 use Rattle.host_listed.specs.Meaning.{Does}

@@ -1,4 +1,4 @@
-use Rattle.std.proofs.Common.{◌≡◌, length, fold}
+use Rattle.std.proofs.Common.{fold}
 use Rattle.std.specs.List.{range_with_len}
 use Rattle.spk_model.specs.Routing.{decide, export}
 use Rattle.host_listed.specs.Meaning.{Does}

@@ -1,4 +1,4 @@
-use Rattle.std.proofs.Common.{◌≡◌, ◌∙◌, sym, ap}
+use Rattle.std.proofs.Common.{◌∙◌, sym}
 use Rattle.spk_model.specs.Routing.{settle}
 use Rattle.host_listed.proofs.FollowingLemmas.{does_first, does_peers}
 use Rattle.host_listed.proofs.routing.Core.settle_set.Goals as goal

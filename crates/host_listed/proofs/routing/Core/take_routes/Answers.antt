@@ -1,5 +1,4 @@
-use Rattle.std.proofs.Common.{◌≡◌, ◌≤◌, ◌∙◌, sym, ap, subst, ℕ, Bool, true, List, length, None}
-use Rattle.std.specs.Prelude.{not, ◌==◌}
+use Rattle.std.proofs.Common.{◌≡◌, ◌≤◌, ◌∙◌, sym, ap, subst, ℕ, Bool, true, List, None}
 use Rattle.xb_values.specs.Prefixes.{prefixes}
 use Rattle.bgp_attr.specs.Paths.{width_of}
 use Rattle.bgp_check.specs.Judgement.{judge_section}

@@ -2,7 +2,7 @@ use Rattle.std.proofs.Common.{◌≡◌, ◌∙◌, sym, ap, subst, true, List, 
 use Rattle.host_listed.proofs.FollowingLemmas.{goes_weaker}
 use Rattle.std.specs.Prelude.{◌++◌}
 use Rattle.xb_words.specs.Table.{set_of}
-use Rattle.xb_values.specs.Prefixes.{Prefix, are_prefixes, prefix_cmp, prefixes}
+use Rattle.xb_values.specs.Prefixes.{are_prefixes, prefix_cmp, prefixes}
 use Rattle.bgp_attr.specs.Paths.{width_of}
 use Rattle.spk_model.specs.Sources.{is_wide}
 use Rattle.spk_native.proofs.SoundLemmas.{judge_section-judge}

@@ -1,6 +1,6 @@
 use Rattle.std.proofs.Common.{◌≡◌, length}
 use Rattle.xb_values.specs.Prefixes.{prefixes}
-use Rattle.spk_model.specs.Routing.{Tables, without_all}
+use Rattle.spk_model.specs.Routing.{without_all}
 use Rattle.host_listed.proofs.tables.PeerTables.remove_all.Given as goal
 
 -- the prefixes that are left finish the removal

@@ -2,7 +2,7 @@ use Rattle.std.proofs.Common.{◌≡◌, length}
 use Rattle.std.specs.Prelude.{filter, not}
 use Rattle.xb_words.specs.Table.{has_key}
 use Rattle.xb_values.specs.Prefixes.{prefix_cmp, prefixes}
-use Rattle.spk_model.specs.Routing.{Tables, without_all}
+use Rattle.spk_model.specs.Routing.{without_all}
 use Rattle.host_listed.proofs.tables.PeerTables.remove_others.Given as goal
 
 -- the prefixes that are left finish the removal
