@@ -1,16 +1,21 @@
-//! Laws of the definitions: what is written is read again. Each is the contract of a function that does nothing.
-ghost use Rattle.std.specs.Prelude.{◌≡◌, ◌≢◌, ◌+◌, ◌<◌, ◌^◌, ℕ, List, [], ◌∷◌, length, flat_map, Some, None, true};
+//! Laws of the definitions: what is written is read again, and telling a peer comes to an end. Each is the contract of a
+//! function that does nothing.
+ghost use Rattle.std.specs.Prelude.{◌≡◌, ◌≢◌, ◌+◌, ◌<◌, ◌≤◌, ◌^◌, ℕ, List, [], ◌∷◌, length, flat_map, Some, None, true};
 ghost use Rattle.std.specs.Prelude.{false, if◌then◌else◌};
 ghost use Rattle.std.specs.List.{AllByRecursion};
 ghost use Rattle.xb_words.specs.Octets.{two_at, four_at};
 ghost use Rattle.xb_wire.specs.Messages.{Update, message, message_kind, message_body, split, update_body};
 ghost use Rattle.xb_wire.specs.Messages.{update_message, update_of, IsMessage};
-ghost use Rattle.xb_values.specs.Prefixes.{Prefix, prefixes, are_prefixes, prefix_octets, IsPrefix};
+ghost use Rattle.xb_words.specs.Table.{IsRising};
+ghost use Rattle.xb_domain.specs.declared.output.Packing.{Packing};
+ghost use Rattle.xb_values.specs.Prefixes.{Prefix, Sections, prefix_cmp, prefixes, are_prefixes, prefix_octets};
+ghost use Rattle.xb_values.specs.Prefixes.{IsPrefix};
 ghost use Rattle.bgp_open.specs.Opens.{is_short_hold, judge_open4, open_seen4};
 ghost use Rattle.bgp_write.specs.Written.{open_body, wide_open_body};
 ghost use Rattle.bgp_write.specs.Packings.{Packed, packed_message};
+ghost use Rattle.bgp_write.specs.Pending.{Formed, form, pending};
 
-use xb_wire::numbers::EMPTY_UPDATE;
+use xb_wire::numbers::{EMPTY_UPDATE, MAX_SECTION};
 
 /// A message that is written is read as that one message, with its type and its body.
 pub fn message_is_read_again()
@@ -51,4 +56,11 @@ pub fn packed_length()
         → length (update_message u) ≡ EMPTY_UPDATE + length u.withdrawn + length u.section + length u.nlri }
     ensures packed { (p : Packed)
         → length (packed_message p) ≡ EMPTY_UPDATE + (if p.withdraws then 0 else length p.section) + length p.prefixes }
+{}
+
+/// A message leaves fewer prefixes pending, however prefixes are packed, so telling a peer comes to an end.
+pub fn telling_ends()
+    ensures { (rule : Packing) (adv told : Sections) (f : Formed) → IsRising prefix_cmp told
+        → AllByRecursion (λ e. length e.1 ≤ MAX_SECTION) adv → form rule adv told ≡ Some f
+        → length (pending adv f.told) < length (pending adv told) }
 {}

@@ -8,8 +8,8 @@
 //!
 //! `xb_wire` has the definition of a message. `specs/Written` has the octets of an OPEN, a KEEPALIVE and a
 //! NOTIFICATION, `specs/Packings` an UPDATE while prefixes are packed into it, and `specs/Pending` which prefixes a
-//! speaker's next UPDATE to a peer has. [`laws`] says that what is written is read again, and how long a packed
-//! message is.
+//! speaker's next UPDATE to a peer has. [`laws`] says that what is written is read again, how long a packed message
+//! is, and that each message leaves fewer prefixes to be told.
 //!
 //! Path attributes are octets here: which ones a section needs is not known.
 #![tactic(auto)]
