@@ -11,7 +11,7 @@ ghost use Rattle.spk_native.specs.Values.{has_sound, path_of};
 ghost use Rattle.spk_native.specs.Marks.{marked_at};
 
 use crate::filters::EXTERNAL;
-use crate::four::copy_out;
+use crate::four::copied;
 use bgp_attr::MAX_CANONICAL;
 use bgp_attr::codes::{
     AGGREGATOR, AS_PATH, AS4_AGGREGATOR, AS4_PATH, LOCAL_PREF, MULTI_EXIT_DISC, NEXT_HOP, ORIGIN,
@@ -48,23 +48,20 @@ fn is_passed_on(code: u8, flags: u8) -> bool
 }
 
 // Appends the attribute of a code, if the route has it and a peer is sent it.
-fn append_passed_on(route: &Overlay, code: u8, value: &mut [u8], out: &mut Buf)
-    requires value { length value.old ≡ MAX_CANONICAL }
-    requires room { length out.old.octets + length (section_of (entry_of code (attribute_at route.now.route code)))
+fn append_passed_on(route: &Overlay, code: u8, out: &mut Buf)
+    requires { length out.old.octets + length (section_of (entry_of code (attribute_at route.now.route code)))
         ≤ out.old.capacity }
-    ensures appended { out.new ≡ record out.old {
+    ensures { out.new ≡ record out.old {
       octets = out.old.octets ++ section_of (entry_of code (attribute_at route.now.route code));
     } }
-    ensures len { length value.new ≡ MAX_CANONICAL }
 {
-    let Some((flags, len)) = route.flags_len(code) else {
+    let Some(held) = route.attribute(code) else {
         return;
     };
-    if !is_passed_on(code, flags) {
-        return;
+    let flags = held.flags();
+    if is_passed_on(code, flags) {
+        append_attribute(out, code, flags, held.value());
     }
-    let _ = route.copy(code, value);
-    append_attribute(out, code, flags, &value[..len]);
 }
 
 /// Replaces the content of `out` by the canonical section of what a peer is sent of the route.
@@ -72,11 +69,10 @@ pub fn native_section(route: &Overlay, out: &mut Buf)
     requires { MAX_CANONICAL ≤ out.old.capacity }
     ensures { out.new ≡ record out.old { octets = section_of route.now.route } }
 {
-    let mut value = [0u8; MAX_CANONICAL];
     let mut from = 0u16;
     out.clear();
     'codes: while let Some(code) = route.code_from(from) {
-        append_passed_on(route, code, &mut value, out);
+        append_passed_on(route, code, out);
         from = u16::from(code) + 1;
     }
 }
@@ -88,12 +84,14 @@ fn mark(route: &mut Overlay, code: u8)
     if is_known(code) {
         return;
     }
-    let Some(held) = copy_out(route, code) else {
+    let Some(held) = route.attribute(code) else {
         return;
     };
     let flags = held.flags();
     if flags & TRANSITIVE != 0 {
-        let _ = route.set(code, flags | PARTIAL, held.value(), MAX_CANONICAL);
+        let mut octets = [0u8; MAX_CANONICAL];
+        let value = copied(held.value(), &mut octets);
+        let _ = route.set(code, flags | PARTIAL, value, MAX_CANONICAL);
     }
 }
 
@@ -119,7 +117,7 @@ fn prepend_number(route: &mut Overlay, asn: u32)
     } }
     ensures bound { length (canon route.new.route) ≤ length (canon route.old.route) + MAX_ADDED }
 {
-    let Some(held) = copy_out(route, AS_PATH) else {
+    let Some(held) = route.attribute(AS_PATH) else {
         return;
     };
     let Some(path) = Segments::wide(held.value()) else {

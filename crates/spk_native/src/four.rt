@@ -71,8 +71,17 @@ pub(crate) struct Four {
     pub(crate) aggregator4: Option<Held>,
 }
 
-/// The attribute of a code.
-pub(crate) fn copy_out(route: &Overlay, code: u8) -> Option<Held>
+/// A copy of a value at the front of a slice.
+pub(crate) fn copied<'a>(value: &[u8], room: &'a mut [u8]) -> &'a [u8]
+    requires { length value.now ≤ length room.old }
+    ensures { result.now ≡ value.now }
+{
+    copy_at(room, 0, value);
+    &room[..value.len()]
+}
+
+// The attribute of a code.
+fn copy_out(route: &Overlay, code: u8) -> Option<Held>
     ensures shape { IsRoute route.now.route }
     ensures value { result ≡ attribute_at route.now.route code }
 {

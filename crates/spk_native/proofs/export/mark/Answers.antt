@@ -12,13 +12,13 @@ returns-then-is_known c =
 pub returns-in_default : goal.returns-in_default
 returns-in_default c =
     ap (λ r. record { route = r; kept = c.args.route.now.kept })
-    (sym (marked_at-none c.args.code c.args.route.now.route c.copy_out.ensures.shape.rising
-    (sym (sym c.in_default.is ∙ c.copy_out.ensures.value))))
+    (sym (marked_at-none c.args.code c.args.route.now.route c.attribute.ensures.shape.rising
+    (sym (sym c.in_default.is ∙ c.attribute.ensures.value))))
 
 pub returns-then-flags-ne0 : goal.returns-then-flags-ne0
 returns-then-flags-ne0 c =
-    let set = IsMarkSet-some c.args.route.now.route c.args.code c.flags-flags.result c.value.result.now c.in-Some.held
-    c.copy_out.ensures.shape c.in-Some.ensures.value c.flags-flags.ensures c.value.ensures.value
+    let set = IsMarkSet-some c.args.route.now.route c.args.code c.flags-flags.result c.copied-value.result.now c.in-Some.held
+    c.attribute.ensures.shape c.in-Some.ensures.value c.flags-flags.ensures (c.copied-value.ensures ∙ c.value.ensures.value)
     (sym c.is_known.ensures ∙ c.if-is_known.false) (is_transitive-set c.flags-flags.result c.if-flags-ne0.true) in
     (rw set.fits at c.set.ensures.after)
     ∙ ap (λ r. record { route = r; kept = c.args.route.now.kept }) set.same
@@ -26,6 +26,6 @@ returns-then-flags-ne0 c =
 pub returns-else-flags-ne0 : goal.returns-else-flags-ne0
 returns-else-flags-ne0 c =
     ap (λ r. record { route = r; kept = c.args.route.now.kept })
-    (sym (marked_at-left c.args.code c.args.route.now.route c.in-Some.held c.copy_out.ensures.shape.rising
+    (sym (marked_at-left c.args.code c.args.route.now.route c.in-Some.held c.attribute.ensures.shape.rising
     (sym c.in-Some.ensures.value) (ap is_transitive (sym c.flags-flags.ensures)
     ∙ is_transitive-unset c.flags-flags.result c.if-flags-ne0.false)))

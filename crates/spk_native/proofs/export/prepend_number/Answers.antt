@@ -19,7 +19,7 @@ returns-in_default-wide-clause-after c =
 path : (c : goal.After-set) → IsPrepended c.args.route.now.route c.args.asn c.in-Some-wide.path
 path c =
     IsPrepended-read c.args.route.now.route c.args.asn c.in-Some-wide.path c.in-Some.held c.value.result.now
-    c.copy_out.ensures.shape c.requires.short c.in-Some.ensures.value c.value.ensures.value
+    c.attribute.ensures.shape c.requires.short c.in-Some.ensures.value c.value.ensures.value
     c.in-Some-wide.ensures.whole c.prepend_into.ensures.bound
 
 -- what is set
