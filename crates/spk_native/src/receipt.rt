@@ -6,8 +6,9 @@ ghost use Rattle.spk_native.specs.Receipt.{inflow, narrow, without_narrow as wit
 ghost use Rattle.spk_native.specs.Values.{HasNoFault, IsFaultless};
 
 use crate::four::{entry_len, rebuild};
-use crate::narrow::narrow_four;
-use crate::wide::wide_four;
+use crate::narrow::{NARROW_AGGREGATOR, narrow_four};
+use crate::wide::{WIDE_AGGREGATOR, wide_four};
+use bgp_attr::MAX_CANONICAL;
 use bgp_attr::codes::{AS4_AGGREGATOR, AS4_PATH};
 use xb_wire::numbers::{MAX_MESSAGE, MAX_SECTION};
 use xbgp_view::Overlay;
@@ -20,7 +21,17 @@ pub fn narrow_route(route: &mut Overlay) -> bool
     ensures after { MatchBool result
         (route.new ≡ record route.old { route = narrow route.old.route }) (route.new ≡ route.old) }
 {
-    let four = narrow_four(route);
+    let mut path = [0u8; MAX_CANONICAL];
+    let mut aggregator = [0u8; NARROW_AGGREGATOR];
+    let mut path4 = [0u8; MAX_CANONICAL];
+    let mut aggregator4 = [0u8; MAX_CANONICAL];
+    let four = narrow_four(
+        route,
+        &mut path,
+        &mut aggregator,
+        &mut path4,
+        &mut aggregator4,
+    );
     rebuild(route, &four, MAX_SECTION)
 }
 
@@ -51,7 +62,9 @@ pub fn widen_route(route: &mut Overlay, wide: bool) -> bool
     if wide {
         return drop_narrow(route);
     }
-    match wide_four(route) {
+    let mut path = [0u8; MAX_CANONICAL];
+    let mut aggregator = [0u8; WIDE_AGGREGATOR];
+    match wide_four(route, &mut path, &mut aggregator) {
         Err(_) => false,
         Ok(four) => rebuild(route, &four, MAX_MESSAGE),
     }

@@ -1,4 +1,4 @@
-use Rattle.std.proofs.Common.{refl, ap, ◌∙◌, arith}
+use Rattle.std.proofs.Common.{ap, ◌∙◌, arith}
 use Rattle.bgp_attr.specs.declared.TheConstants.{MAX_CANONICAL}
 use Rattle.bgp_attr.specs.Paths.{path_ok}
 use Rattle.bgp_path.specs.Widths.{narrow_path}
@@ -11,8 +11,9 @@ returns c =
     let same = c.value.ensures.value in
     let text = take-written c.narrow_into.result _ c.narrow_into.new.out (narrow_path v) c.unwrap_or-len.result
     MAX_CANONICAL
-    c.narrow_into.ensures.written refl
-    (omega (arith, length-narrow_path v (ap (path_ok 4) same ∙ c.requires), c.value.ensures.bound))
+    c.narrow_into.ensures.written c.requires.room
+    (omega (arith, length-narrow_path v (ap (path_ok 4) same ∙ c.requires.path), c.value.ensures.bound))
     c.unwrap_or-len.ensures in
-    ap (λ t. record { flags = c.flags.result; value = t }) (text ∙ ap narrow_path same)
+    c.new.ensures
+    ∙ ap (λ t. record { flags = c.flags.result; value = t }) (text ∙ ap narrow_path same)
     ∙ ap (λ f. record { flags = f; value = narrow_path c.args.path.now.value }) c.flags.ensures

@@ -9,12 +9,12 @@ use Rattle.spk_native.proofs.wide.wide_four.Goals as goal
 
 pub aggregated_since-since-requires : goal.aggregated_since-since-requires
 aggregated_since-since-requires c =
-    faultless_aggregator 2 c.args.route.now.route c.four_in-path.result.aggregator c.requires
+    faultless_aggregator 2 c.args.route.now.route c.four_in-path.result.aggregator c.requires.sound
     (ap (λ (f : Four). f.aggregator) c.four_in-path.ensures.value)
 
 pub wide_path_if-requires-clause-path : goal.wide_path_if-requires-clause-path
 wide_path_if-requires-clause-path c =
-    faultless_path 2 c.args.route.now.route c.four_in-path.result.path c.requires
+    faultless_path 2 c.args.route.now.route c.four_in-path.result.path c.requires.sound
     (ap (λ (f : Four). f.path) c.four_in-path.ensures.value)
 
 pub returns-in_err-wide_path-clause-room : goal.returns-in_err-wide_path-clause-room
@@ -34,7 +34,7 @@ returns-in_err-wide_path-clause-room c =
 pub wide_aggregator_if-wide_aggregator-requires-clause-aggregator :
     goal.wide_aggregator_if-wide_aggregator-requires-clause-aggregator
 wide_aggregator_if-wide_aggregator-requires-clause-aggregator c =
-    faultless_aggregator 2 c.args.route.now.route c.four_in-path.result.aggregator c.requires
+    faultless_aggregator 2 c.args.route.now.route c.four_in-path.result.aggregator c.requires.sound
     (ap (λ (f : Four). f.aggregator) c.four_in-path.ensures.value)
 
 pub returns-clause-value : goal.returns-clause-value
