@@ -1,5 +1,5 @@
 -- Candidates and their ranks, and a tournament from any match on.
-use Rattle.std.proofs.Common.{◌≡◌, ◌≢◌, refl, sym, ap, ◌∙◌, ℕ, ◌+◌, ◌<◌, ◌≤◌, Bool, true, false}
+use Rattle.std.proofs.Common.{◌≡◌, ◌≢◌, refl, sym, ap, inl, inr, ◌∙◌, ℕ, ◌+◌, ◌<◌, ◌≤◌, Bool, true, false}
 use Rattle.std.proofs.Common.{List, [], ◌∷◌, ◌++◌, length, map, get_or, take, drop, arith, add-one, nat_eq}
 use Rattle.std.specs.Prelude.{IfSome, if◌then◌else◌, ◌||◌}
 use Rattle.std.proofs.Math.ListN.{set, length-map}
@@ -12,6 +12,7 @@ use Rattle.xb_values.specs.Prefixes.{Prefix}
 use Rattle.spk_native.specs.declared.decision.Rank.{Rank}
 use Rattle.spk_native.specs.Decision.{survivor}
 use Rattle.spk_native.specs.Laws.{AreApart}
+use Rattle.spk_native.proofs.ChosenLemmas.{IsChosen, IsChosen-marked, one_survivor}
 use Rattle.xbgp_manifest.specs.Manifests.{Manifest}
 use Rattle.xbgp_points.specs.declared.outcome.Outcome.{Outcome}
 use Rattle.xbgp_points.specs.Engines.{Kept}
@@ -38,6 +39,17 @@ AreApart-ranks (c ∷ cs) rivals i j d before within =
     let l : length (map rank_of (c ∷ cs)) ≡ length (c ∷ cs) = length-map (c ∷ cs) rank_of in
     let w : j < length (c ∷ cs) = omega (arith, within, l) in
     rw (get_or-map rank_of (c ∷ cs) i c d (omega arith), get_or-map rank_of (c ∷ cs) j c d w) (rivals i j c before w)
+
+-- one candidate is the best of all
+pub survivor-alone : (cs : List Candidate) → length cs ≡ 1 → AreRivals cs → 0 ≡ survivor (map rank_of cs)
+survivor-alone [] one rivals = absurd (omega (arith, one))
+survivor-alone (c ∷ []) one rivals =
+    let apart = AreApart-ranks (c ∷ []) rivals in
+    let best = one_survivor (c.rank ∷ []) (omega arith) apart in
+    let here : best.0 ≡ c.rank = elim best.1 [ inl same ↦ same | inr none ↦ absurd none ] in
+    (IsChosen-marked (c.rank ∷ []) (true ∷ []) (omega arith) apart
+    (sym (best.2 ∙ ap (λ (r : Rank). r ∷ []) here))).index
+survivor-alone (c ∷ d ∷ cs) one rivals = absurd (omega (arith, one))
 
 -- what a field gives as the rank at an index
 pub rank_at : (cs : List Candidate) (i : ℕ) (d : Candidate) (r : Rank) → i < length cs

@@ -62,8 +62,8 @@ fn meet<F: Field>(engine: &mut Engine, prefix: Prefix, field: &F, old: usize, ne
     )
 }
 
-// The index of the best candidate by the native decision of all.
-fn best_of_all<F: Field>(field: &F) -> usize
+// The index of the best candidate by the native decision of several.
+fn best_of_several<F: Field>(field: &F) -> usize
     requires some { 1 ≤ length (F.candidates field.now) }
     requires few { length (F.candidates field.now) ≤ MAX_CANDIDATES }
     requires apart { AreRivals (F.candidates field.now) }
@@ -75,6 +75,20 @@ fn best_of_all<F: Field>(field: &F) -> usize
         ranks[i] = field.rank(i);
     }
     survivor(&ranks[..field.count()])
+}
+
+// The index of the best candidate by the native decision of all.
+fn best_of_all<F: Field>(field: &F) -> usize
+    requires some { 1 ≤ length (F.candidates field.now) }
+    requires few { length (F.candidates field.now) ≤ MAX_CANDIDATES }
+    requires apart { AreRivals (F.candidates field.now) }
+    ensures index { result ≡ survivor_in (map (λ c. c.rank) (F.candidates field.now)) }
+    ensures within { result < length (F.candidates field.now) }
+{
+    if field.count() == 1 {
+        return 0;
+    }
+    best_of_several(field)
 }
 
 /// The index of the best of the candidates for `prefix`. The programs at decision run on pairs of them in turn.

@@ -1,5 +1,5 @@
 -- What the export of a best route leaves.
-use Rattle.std.proofs.Common.{◌≡◌, refl, ◌∙◌, ap, subst, ℕ, Bool, true, false, List, [], ◌∷◌, None}
+use Rattle.std.proofs.Common.{◌≡◌, refl, sym, ◌∙◌, ap, subst, ℕ, ◌×◌, Bool, true, false, List, [], ◌∷◌, None}
 use Rattle.std.specs.Prelude.{if◌then◌else◌}
 use Rattle.xb_domain.specs.declared.point.Point.TheVariants.{Outbound}
 use Rattle.xb_domain.specs.declared.side.Side.{Side}
@@ -9,12 +9,15 @@ use Rattle.spk_native.specs.Export.{carry}
 use Rattle.spk_native.specs.Filters.{accepts_outbound}
 use Rattle.spk_native.specs.Values.{HasNoFault}
 use Rattle.xbgp_config.specs.Configs.{Config}
+use Rattle.xbgp_manifest.specs.declared.entries.ProgramEntry.{ProgramEntry}
 use Rattle.xbgp_points.specs.declared.outcome.Outcome.{Outcome}
+use Rattle.xbgp_points.specs.declared.outcome.Outcome.TheVariants.{Native}
+use Rattle.xbgp_points.specs.Chains.{chain, chain_from}
 use Rattle.xbgp_points.specs.Engines.{Kept, Answers}
-use Rattle.xbgp_points.specs.Points.{Called, outbound}
+use Rattle.xbgp_points.specs.Points.{Called, called, outbound, world_of}
 use Rattle.spk_model.specs.Choosing.{Trace}
 use Rattle.spk_model.specs.Exporting.{Exported, accepted, encoded_for, exported}
-use Rattle.spk_routes.specs.Exports.{Exports, Passes}
+use Rattle.spk_routes.specs.Exports.{Exports, IsRefused, Passes}
 
 -- what outbound leaves, by what the code reads
 pub passes : (config : Config) (old new : Kept) (peer source : Side) (prefix : Prefix) (best : Route)
@@ -66,6 +69,29 @@ not_passed old new local default peer wide source prefix best left octets p =
       manifest = ap (λ (k : Kept). k.manifest) p.after;
       local = ap (λ (k : Kept). k.local) p.after;
     })
+
+-- without a program at outbound, a route that the native function refuses there is not advertised
+pub not_advertised : (e : Kept) (local : Side) (default : ℕ) (peer : Side) (wide : Bool) (source : Side)
+    (prefix : Prefix) (best : Route) (octets : List ℕ)
+    → IsRefused e source peer
+    → Exports (exported e.manifest local default e.engine peer wide source prefix best) e e false octets
+unfolding exported, chain
+not_advertised e local default peer wide source prefix best octets r =
+    let route = carry best source peer local default in
+    let world = world_of e.engine local peer source prefix 0 route best source in
+    let ends : List (ℕ × ProgramEntry) → Called =
+    λ ps. called (chain_from Outbound [] world e.engine.faults ps world) in
+    subst (λ (ps : List (ℕ × ProgramEntry)). Exports
+    (if accepted (ends ps).outcome (accepts_outbound source peer)
+    then encoded_for e.manifest local (ends ps).engine peer wide source best (ends ps).route ((Outbound, (ends ps).outcome) ∷ [])
+    else record { section = None; engine = (ends ps).engine; trace = (Outbound, (ends ps).outcome) ∷ [] })
+    e e false octets) (sym r.none)
+    (subst (λ (b : Bool). Exports
+    (if b
+    then encoded_for e.manifest local e.engine peer wide source best route ((Outbound, Native) ∷ [])
+    else record { section = None; engine = e.engine; trace = (Outbound, Native) ∷ [] })
+    e e false octets) (sym r.native)
+    (record { section = refl; engine = refl; manifest = refl; local = refl }))
 
 -- a route that passes outbound is advertised as it is encoded
 pub then_encoded : (old mid new : Kept) (local : Side) (default : ℕ) (peer : Side) (wide : Bool) (source : Side)

@@ -1,10 +1,14 @@
 -- What the export of a best route leaves (for `Exporter::export` and the private functions of export.rt).
-use Rattle.std.specs.Prelude.{◌≡◌, ◌≤◌, ℕ, Bool, true, false, List, length, Some, None}
+use Rattle.std.specs.Prelude.{◌≡◌, ◌≤◌, ℕ, Bool, true, false, List, [], length, Some, None}
 use Rattle.xb_wire.specs.declared.numbers.TheConstants.{MAX_SECTION}
+use Rattle.xb_domain.specs.declared.point.Point.TheVariants.{Outbound}
+use Rattle.xb_domain.specs.declared.side.Side.{Side}
 use Rattle.bgp_attr.specs.Routes.{Route, IsRoute}
+use Rattle.spk_native.specs.Filters.{accepts_outbound}
 use Rattle.spk_native.specs.Values.{HasNoFault}
 use Rattle.xbgp_points.specs.declared.outcome.Outcome.{Outcome}
 use Rattle.xbgp_points.specs.declared.outcome.Outcome.TheVariants.{Verdict, Native, Failed}
+use Rattle.xbgp_points.specs.Chains.{programs_at}
 use Rattle.xbgp_points.specs.Engines.{Kept}
 use Rattle.xbgp_points.specs.Points.{Called}
 use Rattle.spk_model.specs.Exporting.{Exported, accepted}
@@ -28,6 +32,11 @@ pub record Passes (c : Called) (native : Bool) (old new : Kept) (left : Route) (
   pub after : new ≡ record old { engine = c.engine; wrote = c.wrote }
   pub shape : IsRoute left
   pub faultless : HasNoFault left
+
+-- no program runs at outbound, and the native function refuses there
+pub record IsRefused (e : Kept) (source peer : Side) : Type 0 where
+  pub none : programs_at e.manifest Outbound ≡ []
+  pub native : accepts_outbound source peer ≡ false
 
 -- the section that programs gave, or the native one
 abbrev pub given_or : Outcome → List ℕ → List ℕ → List ℕ

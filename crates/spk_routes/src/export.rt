@@ -1,5 +1,6 @@
 // What a best route becomes for a peer.
 ghost use Rattle.std.specs.Prelude.{◌≡◌, ◌≤◌, [], length, Some, None, IfOk, IsTrue, MatchBool};
+ghost use Rattle.std.specs.Bool.{OnTrue};
 ghost use Rattle.bgp_attr.specs.Routes.{route_of, IsRoute};
 ghost use Rattle.spk_native.specs.Export.{carry};
 ghost use Rattle.spk_native.specs.Filters.{accepts_outbound};
@@ -8,7 +9,7 @@ ghost use Rattle.spk_native.specs.Values.{HasNoFault};
 ghost use Rattle.xbgp_points.specs.Points.{outbound};
 ghost use Rattle.spk_model.specs.Choosing.{Trace};
 ghost use Rattle.spk_model.specs.Exporting.{accepted, encoded_for, exported, short_enough};
-ghost use Rattle.spk_routes.specs.Exports.{given_or, Exports, Passes};
+ghost use Rattle.spk_routes.specs.Exports.{given_or, Exports, IsRefused, Passes};
 ghost use Rattle.spk_routes.specs.Rooms.{HaveRoom};
 ghost use Rattle.spk_routes.specs.Sound.{IsSound};
 
@@ -100,6 +101,13 @@ fn write_form(section: &[u8], wide: bool, route: &mut Overlay, out: &mut Buf) ->
     }
     write_section(route, out);
     true
+}
+
+// Whether no program runs at outbound and the native function refuses there.
+fn is_refused(engine: &Engine, source: &Side, peer: &Side) -> bool
+    ensures { OnTrue result (IsRefused engine.now source.now peer.now) }
+{
+    !engine.runs_at_outbound() && !outbound_native(source, peer)
 }
 
 // Carries a best route over to a peer, and returns whether it passes outbound.
@@ -208,6 +216,9 @@ impl Exporter {
             source.now prefix (R.route best.now))
             engine.old engine.new result self.new }
     {
+        if is_refused(engine, source, peer) {
+            return false;
+        }
         if !pass_outbound(&mut self.route, engine, config, peer, source, prefix, best) {
             return false;
         }

@@ -121,6 +121,9 @@ pub(crate) fn octets_in<R: Routes>(
         if !take_all(alloc, links, routes, frames, peer)? {
             return Ok(());
         }
+        if at == piece.len() {
+            return Ok(());
+        }
     }
     Ok(())
 }

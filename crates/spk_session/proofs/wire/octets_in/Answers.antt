@@ -1,4 +1,4 @@
-use Rattle.std.proofs.Common.{◌≡◌, ◌≤◌, ◌<◌, ◌-◌, sym, ◌∙◌, ap, List, ℕ, ◌++◌, length, take, arith}
+use Rattle.std.proofs.Common.{◌≡◌, ◌≤◌, ◌<◌, ◌-◌, sym, ◌∙◌, ap, List, ℕ, ◌+◌, ◌++◌, length, take, arith}
 use Rattle.std.proofs.Common.{min}
 use Rattle.std.proofs.lemmas.List.{length-drop}
 use Rattle.bgp_frame.specs.declared.frames.TheConstants.{MAX_WAITING}
@@ -31,6 +31,25 @@ returns-then-not-branch g c =
     c.if-not-branch.true c.in_ok-take_all.ensures in
     piece_closed p c.pieces.at c.feed.result c.args.frames.now.waits c.pieces.frames.waits c.feed.new.self.waits
     c.take_all.new.frames.waits piece a b d c.requires.calm (sym c.if-not-lives.ensures) c.pieces.invariant.comes fed k
+
+pub returns-then-at-piece : goal.returns-then-at-piece
+returns-then-at-piece g c =
+    let p = c.args.peer in
+    let piece = c.args.piece.now in
+    let a = core_of (g.R.Routes.built_from c.args.routes.now) (g.R.Routes.routing c.args.routes.now) c.args.links.now in
+    let b = core_of (g.R.Routes.built_from c.pieces.routes) (g.R.Routes.routing c.pieces.routes) c.pieces.links in
+    let d = core_of (g.R.Routes.built_from c.take_all.new.routes) (g.R.Routes.routing c.take_all.new.routes)
+    c.take_all.new.links in
+    let fed = ap (λ (f : Waiting). f.waits) c.feed.ensures.after
+    ∙ ap (λ (l : List ℕ). c.pieces.frames.waits ++ take c.feed.result l) (to_end c.pieces.at piece) in
+    let i = c.pieces.invariant in
+    let k = by_all c.in_ok-take_all.field-0 p c.feed.new.self.waits b c.take_all.new.frames.waits d
+    c.if-not-branch.false c.in_ok-take_all.ensures in
+    let comes = piece_on p c.pieces.at c.feed.result c.args.frames.now.waits c.pieces.frames.waits
+    c.feed.new.self.waits c.take_all.new.frames.waits piece a b d i.comes fed k in
+    piece_done p (c.pieces.at + c.feed.result) c.args.frames.now.waits c.take_all.new.frames.waits piece a d
+    c.requires.calm (sym c.if-not-lives.ensures) comes (omega (arith, c.if-at-piece.true))
+    (open_then p a b d i.open' k.open') k.drained
 
 pub pieces-preserved : goal.pieces-preserved
 pieces-preserved g c =

@@ -1,5 +1,10 @@
-use Rattle.spk_routes.proofs.ExportLemmas.{not_passed, then_encoded}
+use Rattle.spk_routes.proofs.ExportLemmas.{not_advertised, not_passed, then_encoded}
 use Rattle.spk_routes.proofs.export.Exporter.export.Goals as goal
+
+pub returns-then-is_refused : goal.returns-then-is_refused
+returns-then-is_refused g c =
+    not_advertised c.args.engine.now c.args.config.now.local c.args.config.now.local_pref c.args.peer.now c.args.wide
+    c.args.source.now c.args.prefix (g.R.RouteView.route c.args.best.now) _ c.if-is_refused.ensures
 
 pub returns-then-not-pass_outbound : goal.returns-then-not-pass_outbound
 returns-then-not-pass_outbound g c =
