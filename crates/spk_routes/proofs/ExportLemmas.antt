@@ -1,5 +1,5 @@
 -- What the export of a best route leaves.
-use Rattle.std.proofs.Common.{◌≡◌, refl, sym, ◌∙◌, ap, subst, ℕ, ◌×◌, Bool, true, false, List, [], ◌∷◌, None}
+use Rattle.std.proofs.Common.{◌≡◌, refl, sym, ◌∙◌, ap, subst, ℕ, Bool, true, false, List, [], ◌∷◌, None}
 use Rattle.std.specs.Prelude.{if◌then◌else◌}
 use Rattle.xb_domain.specs.declared.point.Point.TheVariants.{Outbound}
 use Rattle.xb_domain.specs.declared.side.Side.{Side}
@@ -75,7 +75,7 @@ pub not_advertised : (e : Kept) (local : Side) (default : ℕ) (peer : Side) (wi
     (prefix : Prefix) (best : Route) (octets : List ℕ)
     → IsRefused e source peer
     → Exports (exported e.manifest local default e.engine peer wide source prefix best) e e false octets
-unfolding exported, chain
+unfolding exported chain
 not_advertised e local default peer wide source prefix best octets r =
     let route = carry best source peer local default in
     let world = world_of e.engine local peer source prefix 0 route best source in
