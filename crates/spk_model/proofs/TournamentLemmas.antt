@@ -13,10 +13,14 @@ use Rattle.spk_native.specs.declared.decision.Rank.{Rank}
 use Rattle.spk_native.specs.Decision.{survivor}
 use Rattle.spk_native.specs.Laws.{AreApart}
 use Rattle.spk_native.proofs.ChosenLemmas.{IsChosen, IsChosen-marked, one_survivor}
+use Rattle.xb_domain.specs.declared.point.Point.TheVariants.{Decision}
+use Rattle.xbgp_manifest.specs.declared.entries.ProgramEntry.{ProgramEntry}
 use Rattle.xbgp_manifest.specs.Manifests.{Manifest}
 use Rattle.xbgp_points.specs.declared.outcome.Outcome.{Outcome}
 use Rattle.xbgp_points.specs.Engines.{Kept}
-use Rattle.xbgp_points.specs.Points.{Engine}
+use Rattle.xbgp_points.specs.declared.outcome.Outcome.TheVariants.{Native}
+use Rattle.xbgp_points.specs.Chains.{chain, chain_from, programs_at}
+use Rattle.xbgp_points.specs.Points.{Called, Engine, called, nobody, world_of}
 use Rattle.spk_model.specs.Choosing.{Candidate, Choice, AreRivals}
 use Rattle.spk_model.specs.Tournaments.{Match, IsMeeting, first_match, meeting, after_meeting, meet, meet_all}
 use Rattle.spk_model.specs.Tournaments.{chosen, choose, is_second_better, is_new_preferred, is_verdict}
@@ -194,3 +198,38 @@ pub comes_last : (m : Manifest) (local : Side) (e : Engine) (prefix : Prefix) (c
 comes_last m local e prefix cs i champion by_program now k over =
     let r = k.rest ∙ ap (chosen cs) (meet_all-end m local prefix k.so_far i cs over) in
     (ap (λ (c : Choice). c.index) r ∙ rw (k.program, k.index) refl, ap (λ (c : Choice). c.engine) r ∙ k.engine)
+
+-- without a program at decision no outcome is a verdict, and nothing changes
+native_meeting : (m : Manifest) (local : Side) (e : Engine) (prefix : Prefix) (old new : Candidate)
+    → programs_at m Decision ≡ []
+    → ((meeting m local e prefix old new).outcome ≡ Native) × ((meeting m local e prefix old new).engine ≡ e)
+unfolding chain
+native_meeting m local e prefix old new none =
+    let w = world_of e local nobody old.side prefix 0 old.route new.route new.side in
+    let ends : List (ℕ × ProgramEntry) → Called =
+    λ ps. called (chain_from Decision [] w e.faults ps w) in
+    (ap (λ (ps : List (ℕ × ProgramEntry)). (ends ps).outcome) none,
+    ap (λ (ps : List (ℕ × ProgramEntry)). (ends ps).engine) none)
+
+-- nor do all meetings
+native_meetings : (m : Manifest) (local : Side) (prefix : Prefix) (k : Match) (i : ℕ) (cs : List Candidate)
+    → programs_at m Decision ≡ [] → k.by_program ≡ false
+    → ((meet_all m local prefix k i cs).by_program ≡ false)
+    × ((meet_all m local prefix k i cs).engine ≡ k.engine)
+native_meetings m local prefix k i [] none so_far = (so_far, refl)
+native_meetings m local prefix k i (c ∷ cs) none so_far =
+    let met = native_meeting m local k.engine prefix k.champion c none in
+    let next = meet m local prefix k i c in
+    let rest = native_meetings m local prefix next (i + 1) cs none (rw (so_far, met.0) refl) in
+    (rest.0, rest.1 ∙ met.1)
+
+-- without a program at decision the choice is the best by the native decision of all
+pub native_choice : (m : Manifest) (local : Side) (e : Engine) (prefix : Prefix) (cs : List Candidate)
+    → programs_at m Decision ≡ [] → 1 ≤ length cs
+    → ((choose m local e prefix cs).index ≡ survivor (map rank_of cs))
+    × ((choose m local e prefix cs).engine ≡ e)
+unfolding choose
+native_choice m local e prefix [] none some = absurd (omega (arith, some))
+native_choice m local e prefix (first ∷ others) none some =
+    let r = native_meetings m local prefix (first_match e first) 1 others none refl in
+    (rw r.0 refl, r.1)

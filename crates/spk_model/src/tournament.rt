@@ -103,6 +103,9 @@ pub fn choose<F: Field>(engine: &mut Engine, prefix: Prefix, field: &F) -> usize
         (choice engine.old.manifest engine.old.local engine.old.engine prefix (F.candidates field.now)).engine }
     ensures same { (engine.new.manifest ≡ engine.old.manifest) × (engine.new.local ≡ engine.old.local) }
 {
+    if !engine.runs_at_decision() {
+        return best_of_all(field);
+    }
     let mut champion = 0;
     let mut by_program = false;
     for i in 1..field.count() {

@@ -4,7 +4,7 @@ ghost use Rattle.xb_words.specs.Table.{has_key};
 ghost use Rattle.spk_native.specs.Export.{native_section};
 ghost use Rattle.xbgp_maps.specs.Mappings.{closed, shapes_of};
 ghost use Rattle.xbgp_manifest.specs.Manifests.{entry_shapes};
-ghost use Rattle.xb_domain.specs.declared.point.Point.TheVariants.{Outbound};
+ghost use Rattle.xb_domain.specs.declared.point.Point.TheVariants.{Decision, Outbound};
 ghost use Rattle.xbgp_points.specs.Chains.{fault_cmp, is_sendable, programs_at};
 ghost use Rattle.xbgp_points.specs.Engines.{started, Answers, IsUndone, KeepsRoute};
 ghost use Rattle.xbgp_points.specs.Points.{encode, given_section, inbound, outbound, prefer, receive, section_left};
@@ -176,6 +176,13 @@ impl Engine {
             route,
             &self.local,
         )
+    }
+
+    /// Whether there is a program at decision.
+    pub fn runs_at_decision(&self) -> bool
+        ensures { result ≡ not (length (programs_at self.now.manifest Decision) == 0) }
+    {
+        !self.orders.decision.is_empty()
     }
 
     /// Whether there is a program at outbound.

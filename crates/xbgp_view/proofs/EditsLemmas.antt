@@ -1,12 +1,13 @@
 -- An edited route is a route.
-use Rattle.std.proofs.Common.{◌≡◌, refl, sym, ap, subst, ◌∙◌, ℕ, ◌<◌, ◌≤◌, List, [], ◌∷◌, ◌++◌, length, take, drop}
-use Rattle.std.proofs.Common.{arith, ◌+◌, ◌-◌, true, false, is_some, suc}
-use Rattle.std.specs.Prelude.{slice_index}
+use Rattle.std.proofs.Common.{◌≡◌, inl, inr, refl, sym, ap, subst, ◌∙◌, ℕ, ◌<◌, ◌≤◌, List, [], ◌∷◌, ◌++◌, length, take, drop}
+use Rattle.std.proofs.Common.{arith, ◌+◌, ◌-◌, true, false, is_some, nat_lt, suc}
+use Rattle.std.specs.Prelude.{slice_index, ◌==◌, not}
 use Rattle.std.specs.List.{AllByRecursion}
 use Rattle.std.specs.List.Sorted.{IsStrictlySortedBy}
 use Rattle.std.specs.Map.{keys_of}
 use Rattle.std.specs.Ordering.{nat_cmp, ordering_reverse}
 use Rattle.std.specs.declared.cmp.Ordering.TheVariants.{Less, Equal, Greater}
+use Rattle.std.proofs.lemmas.Bool.{cases_Bool, eq-eqb, ne_eqb}
 use Rattle.std.proofs.lemmas.Cmp.{nat_cmp_total}
 use Rattle.xb_words.specs.Table.{with_value, without}
 use Rattle.std.proofs.lemmas.List.{length-append, length-take-le, length-drop}
@@ -17,7 +18,8 @@ use Rattle.bgp_attr.specs.declared.flags.TheConstants.{KEPT}
 use Rattle.bgp_attr.specs.Routes.{Attribute, Route, route_of, canon, canonical, kept_flags, attribute_at}
 use Rattle.bgp_attr.specs.Routes.{with_attribute, without_attribute, IsEntry, IsRoute}
 use Rattle.xbgp_view.specs.Sections.{IsCanonical, IsGap, below_code, from_code, past_code}
-use Rattle.xbgp_view.proofs.LowerLemmas.{with_value-at_code, without-at_code}
+use Rattle.xbgp_view.proofs.LowerLemmas.{with_value-at_code, without-at_code, front, value_at-from_code}
+use Rattle.xbgp_view.proofs.LowerLemmas.{below_code-from_code}
 use Rattle.xbgp_view.proofs.FoundLemmas.{canon-append}
 use Rattle.xbgp_view.proofs.ReadingLemmas.{route_of-canon, IsCanonical-canon}
 
@@ -158,3 +160,44 @@ without_attribute-absent code (x ∷ r) e = elim (nat_cmp code x.0) as (λ o. na
 pub AreOctets-slice : (s : List ℕ) → ((i : ℕ) → slice_index s i < 256) → AreOctets s
 AreOctets-slice [] each = tt
 AreOctets-slice (b ∷ s) each = (each 0, AreOctets-slice s (λ i. each (suc i)))
+
+canonical_some : (e : ℕ × Attribute) → 0 < length (canonical e)
+canonical_some e = elim (cases_Bool (nat_lt 255 (length e.1.value))) [
+  | inl long ↦ rw long (omega arith)
+  | inr short ↦ rw short (omega arith)
+]
+
+front_there : (code : ℕ) (r : Route) → is_some (front code r) ≡ true → length (canon (past_code code r)) < length (canon r)
+front_there code [] e = absurd (cc e)
+front_there code (x ∷ r) e = elim (cases_Bool (x.0 == code)) [
+  | inl here ↦ rw here (omega (arith, length-append (canonical x) (canon r), canonical_some x))
+  | inr other ↦ let no : false ≡ true = rw other at e in absurd (cc no)
+]
+
+front_absent : (code : ℕ) (r : Route) → is_some (front code r) ≡ false → past_code code r ≡ r
+front_absent code [] e = refl
+front_absent code (x ∷ r) e = elim (cases_Bool (x.0 == code)) [
+  | inl here ↦ let no : true ≡ false = rw here at e in absurd (cc no)
+  | inr other ↦ rw other refl
+]
+
+-- a gap is empty exactly if the code is absent
+pub gap-empty : (code : ℕ) (s : List ℕ) (g : ℕ × ℕ) → IsCanonical s → IsGap code s g
+    → g.0 == g.1 ≡ not (is_some (attribute_at (route_of s) code))
+gap-empty code s g is gap =
+    let r = route_of s in
+    let l = below_code code r in
+    let u = from_code code r in
+    let at = value_at-from_code code r is.route.rising in
+    let front_len = sym (length-take-le g.0 s (omega (arith, gap.order, gap.inside))) ∙ ap length gap.before in
+    let back_len = sym (length-drop g.1 s) ∙ ap length gap.after in
+    let whole = ap length (sym (canon-append l u) ∙ ap canon (below_code-from_code code r) ∙ is.octets) in
+    let sum = length-append (canon l) (canon u) in
+    elim (cases_Bool (is_some (front code u))) [
+      | inl there ↦
+          let less = front_there code u there in
+          rw (at, there) (ne_eqb g.0 g.1 (λ e. omega (arith, e, gap.inside, front_len, back_len, whole, sum, less)))
+      | inr absent ↦
+          let same = ap (λ t. length (canon t)) (front_absent code u absent) in
+          rw (at, absent) (eq-eqb g.0 g.1 (omega (arith, gap.inside, front_len, back_len, whole, sum, same)))
+    ]

@@ -1,7 +1,7 @@
 -- An index is a route by rising code: looked up, walked by code, and set at a code.
 use Rattle.std.proofs.Common.{◌≡◌, refl, sym, ap, ◌∙◌, ℕ, zero, suc, ◌+◌, ◌<◌, ◌≤◌, true, false, List, [], ◌∷◌, length}
 use Rattle.std.proofs.Common.{get_or, fold, Option, Some, None, arith, zero-add}
-use Rattle.std.specs.Prelude.{is_some, replicate, slice_set}
+use Rattle.std.specs.Prelude.{is_some, replicate, slice_set, Result, Ok, Err}
 use Rattle.std.specs.Option.{option_map}
 use Rattle.std.specs.List.{AllByRecursion}
 use Rattle.std.specs.List.Sorted.{IsStrictlySortedBy}
@@ -12,10 +12,11 @@ use Rattle.std.proofs.lemmas.Bool.{le-leb, lt-leb}
 use Rattle.xb_words.specs.Cut.{cut, walk, walk_from}
 use Rattle.xb_words.specs.Table.{with_value}
 use Rattle.bgp_attr.specs.declared.attrs.Attr.{Attr}
+use Rattle.bgp_attr.specs.declared.attrs.Overrun.{Overrun}
 use Rattle.bgp_attr.specs.Attributes.{attribute_size, attr_code, attr_flags, attr_value}
 use Rattle.bgp_attr.specs.Routes.{Attribute, Route, attribute_at, route_of, with_attribute, IsEntry}
-use Rattle.bgp_attr.specs.Walks.{found_attr, overrun, attributes_from}
-use Rattle.xbgp_view.specs.Indexes.{index_route, walked_route}
+use Rattle.bgp_attr.specs.Walks.{FoundAttr, found_attr, overrun, attributes_from}
+use Rattle.xbgp_view.specs.Indexes.{index_route, walked_route, entries_of}
 use Rattle.xbgp_view.specs.Sections.{kept_attr}
 use Rattle.xbgp_view.specs.Views.{code_from}
 use Rattle.xbgp_view.proofs.LowerLemmas.{nat_cmp-less, nat_cmp-equal, nat_cmp-greater, lt-nat_cmp, eq-nat_cmp}
@@ -114,3 +115,9 @@ walked at (x ∷ xs) rest r = walked (at + length x) xs rest (with_attribute r (
 pub walked_route-all : (s : List ℕ) → walked_route [] (attributes_from 0 s) ≡ route_of s
 unfolding walk_from
 walked_route-all s = walked 0 (cut attribute_size s).items (cut attribute_size s).rest []
+
+-- steps without an attribute leave a route as it is
+pub walked_route-end : (r : Route) (steps : List (Result FoundAttr Overrun)) → entries_of steps ≡ [] → walked_route r steps ≡ r
+walked_route-end r [] none = refl
+walked_route-end r (Ok a ∷ steps) none = absurd (cc none)
+walked_route-end r (Err o ∷ steps) none = refl

@@ -98,7 +98,7 @@ length-canonical e = elim (cases_Bool (nat_lt 255 (length e.1.value))) [
 ]
 
 -- the canonical form of an attribute is no longer than the attribute
-canonical_short : (x : List ℕ) → AreOctets x → IsItem attribute_size x
+pub canonical_short : (x : List ℕ) → AreOctets x → IsItem attribute_size x
     → length (canonical (attr_code x, record { flags = kept_flags (attr_flags x); value = attr_value x })) ≤ length x
 canonical_short x octets item =
     let w = attribute_size-some x (length x) item in

@@ -6,3 +6,4 @@ pub mod EditsLemmas
 pub mod LengthsLemmas
 pub mod IndexesLemmas
 pub mod ViewsLemmas
+pub mod RisingLemmas

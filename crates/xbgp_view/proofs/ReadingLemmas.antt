@@ -18,17 +18,18 @@ use Rattle.xbgp_view.specs.Sections.{IsCanonical}
 use Rattle.xbgp_view.proofs.CanonicalLemmas.{IsSpelled, IsSpelled-all, cut-canon}
 
 -- every key is below a code
-abbrev Below : ℕ → Route → Type 0
+abbrev pub Below : ℕ → Route → Type 0
 Below code r = AllByRecursion (λ k. nat_cmp k code ≡ Less) (keys_of r)
 
 -- an attribute after all others is appended
-add_last : (r : Route) (code : ℕ) (a : Attribute) → Below code r → with_value nat_cmp r code a ≡ r ++ (code, a) ∷ []
+pub add_last : (r : Route) (code : ℕ) (a : Attribute) → Below code r → with_value nat_cmp r code a ≡ r ++ (code, a) ∷ []
 add_last [] code a below = refl
 add_last (e ∷ r) code a below =
     let greater = nat_cmp_total.antisymm code e.0 ∙ ap ordering_reverse below.0 in
     rw greater (ap (λ (l : Route). e ∷ l) (add_last r code a below.1))
 
-below_more : (r : Route) (code : ℕ) (e : ℕ × Attribute) → Below code r → nat_cmp e.0 code ≡ Less → Below code (r ++ e ∷ [])
+-- an entry below a code may follow entries below it
+pub below_more : (r : Route) (code : ℕ) (e : ℕ × Attribute) → Below code r → nat_cmp e.0 code ≡ Less → Below code (r ++ e ∷ [])
 below_more [] code e below less = (less, tt)
 below_more (x ∷ r) code e below less = (below.0, below_more r code e below.1 less)
 

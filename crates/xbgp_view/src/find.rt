@@ -1,5 +1,5 @@
 // The attribute of a code in a canonical section, by a walk from its begin, and the gap for one.
-ghost use Rattle.std.specs.Prelude.{◌≡◌, ◌+◌, ◌≤◌, ◌++◌, length, drop, nat_lt, None, Some, IfSome, if◌then◌else◌};
+ghost use Rattle.std.specs.Prelude.{◌≡◌, ◌+◌, ◌≤◌, ◌++◌, length, drop, nat_lt, ◌==◌, None, Some, IfSome, if◌then◌else◌};
 ghost use Rattle.std.specs.Option.{option_map};
 ghost use Rattle.bgp_attr.specs.Routes.{attribute_at, route_of};
 ghost use Rattle.bgp_attr.specs.Walks.{attributes_from};
@@ -16,6 +16,15 @@ use xb_words::copy_at;
 pub(crate) struct Gap {
     pub(crate) start: usize,
     pub(crate) end: usize,
+}
+
+impl Gap {
+    /// Whether there is no attribute in it.
+    pub(crate) fn is_empty(self) -> bool
+        ensures { result ≡ (self.start == self.end) }
+    {
+        self.start == self.end
+    }
 }
 
 // The first attribute of a section whose code is at least `from`.

@@ -1,14 +1,16 @@
 // A route that can be edited: its canonical section, in which each edit cuts or fills the gap of one code.
 ghost use Rattle.std.specs.Prelude.{◌≡◌, ℕ, ◌≤◌, ◌+◌, [], length, is_some, nat_le, if◌then◌else◌, IfOk};
-ghost use Rattle.std.specs.Bool.{OnFalse};
+ghost use Rattle.std.specs.Bool.{OnFalse, OnTrue};
 ghost use Rattle.bgp_attr.specs.Routes.{attribute_at, canon, route_of, with_attribute, without_attribute};
-ghost use Rattle.xbgp_view.specs.Sections.{IsCanonical};
+ghost use Rattle.xbgp_view.specs.Sections.{IsCanonical, IsGap};
 ghost use Rattle.xb_values.specs.Buffers.{Appends};
 
-use crate::find::{attribute_in, code_in, copy_value, gap_at};
+use crate::find::{Gap, attribute_in, code_in, copy_value, gap_at};
+use crate::held::Held;
+use crate::section::next_attr;
 use crate::spell::{append_attribute, kept_flags, spelled_len};
 use crate::{RouteView, SectionView, write_section};
-use bgp_attr::MAX_CANONICAL;
+use bgp_attr::{Attrs, MAX_CANONICAL};
 use std::alloc::{AllocError, Global};
 use std::marker::Model;
 use std::mem;
@@ -43,30 +45,31 @@ impl Model for Overlay {
 }
 
 // Writes a section without an attribute.
-fn close_gap(section: &[u8], code: u8, out: &mut Buf)
+fn close_gap(section: &[u8], code: u8, gap: Gap, out: &mut Buf)
     requires section { IsCanonical section.now }
+    requires gap { IsGap code section.now (gap.start, gap.end) }
     requires room { out.old.capacity ≡ MAX_CANONICAL }
     ensures written { out.new ≡ record out.old { octets = canon (without_attribute (route_of section.now) code) } }
     ensures canonical { IsCanonical out.new.octets }
     ensures route { route_of out.new.octets ≡ without_attribute (route_of section.now) code }
 {
-    let gap = gap_at(section, code);
     out.replace(&section[..gap.start]);
     out.append(&section[gap.end..]);
 }
 
 // The length of a section with an attribute of this value in place of the one of its code.
-fn len_with(section: &[u8], code: u8, value: &[u8]) -> usize
-    requires { IsCanonical section.now }
+fn len_with(section: &[u8], code: u8, gap: Gap, value: &[u8]) -> usize
+    requires section { IsCanonical section.now }
+    requires gap { IsGap code section.now (gap.start, gap.end) }
     ensures { (flags : ℕ) → result ≡ length (canon (with_attribute (route_of section.now) code flags value.now)) }
 {
-    let gap = gap_at(section, code);
     gap.start + (spelled_len(value) + (section.len() - gap.end))
 }
 
 // Writes a section with an attribute in place of the one of its code.
-fn fill_gap(section: &[u8], code: u8, flags: u8, value: &[u8], out: &mut Buf)
+fn fill_gap(section: &[u8], code: u8, gap: Gap, flags: u8, value: &[u8], out: &mut Buf)
     requires section { IsCanonical section.now }
+    requires gap { IsGap code section.now (gap.start, gap.end) }
     requires room { out.old.capacity ≡ MAX_CANONICAL }
     requires fits { length (canon (with_attribute (route_of section.now) code flags value.now)) ≤ MAX_CANONICAL }
     ensures written { out.new
@@ -74,7 +77,6 @@ fn fill_gap(section: &[u8], code: u8, flags: u8, value: &[u8], out: &mut Buf)
     ensures canonical { IsCanonical out.new.octets }
     ensures route { route_of out.new.octets ≡ with_attribute (route_of section.now) code flags value.now }
 {
-    let gap = gap_at(section, code);
     out.replace(&section[..gap.start]);
     append_attribute(out, code, kept_flags(flags), value);
     out.append(&section[gap.end..]);
@@ -88,6 +90,11 @@ impl RouteView for Overlay {
         Some((kept_flags(attr.flags), attr.value.len()))
     }
 
+    fn attribute(&self, code: u8) -> Option<Held<'_>> {
+        let attr = attribute_in(self.section.as_slice(), code)?;
+        Some(Held::of(attr))
+    }
+
     fn copy(&self, code: u8, out: &mut [u8]) -> Option<usize> {
         let attr = attribute_in(self.section.as_slice(), code)?;
         copy_value(attr.value, out)
@@ -96,6 +103,39 @@ impl RouteView for Overlay {
     fn code_from(&self, from: u16) -> Option<u8> {
         code_in(self.section.as_slice(), from)
     }
+}
+
+// Replaces the content of `out` by the canonical section of the route of a section whose codes rise, and returns true,
+// or false, with any content, if the codes don't rise.
+fn read_rising(section: &[u8], out: &mut Buf) -> bool
+    requires section { length section.now ≤ MAX_CANONICAL }
+    requires room { out.old.capacity ≡ MAX_CANONICAL }
+    ensures capacity { out.new.capacity ≡ MAX_CANONICAL }
+    ensures canonical { OnTrue result (IsCanonical out.new.octets) }
+    ensures route { OnTrue result (route_of out.new.octets ≡ route_of section.now) }
+{
+    let mut attrs = Attrs::new(section);
+    let mut from = 0u16;
+    out.clear();
+    'attrs: while let Some(attr) = next_attr(&mut attrs) {
+        if u16::from(attr.code) < from {
+            return false;
+        }
+        append_attribute(out, attr.code, kept_flags(attr.flags), attr.value);
+        from = u16::from(attr.code) + 1;
+    }
+    true
+}
+
+// Replaces the content of `out` by the canonical section of the route of a section.
+fn read_any(section: &[u8], out: &mut Buf)
+    requires section { length section.now ≤ MAX_CANONICAL }
+    requires room { out.old.capacity ≡ MAX_CANONICAL }
+    ensures capacity { out.new.capacity ≡ MAX_CANONICAL }
+    ensures canonical { IsCanonical out.new.octets }
+    ensures route { route_of out.new.octets ≡ route_of section.now }
+{
+    write_section(&SectionView::new(section), out);
 }
 
 impl Overlay {
@@ -118,12 +158,14 @@ impl Overlay {
         write_section(view, &mut self.section);
     }
 
-    /// Makes it the route of a section, which is walked over once, and leaves the kept copy.
+    /// Makes it the route of a section, and leaves the kept copy.
     pub fn read(&mut self, section: &[u8])
         requires { length section.now ≤ MAX_CANONICAL }
         ensures { self.new ≡ record self.old { route = route_of section.now } }
     {
-        self.load(&SectionView::new(section));
+        if !read_rising(section, &mut self.section) {
+            read_any(section, &mut self.section);
+        }
     }
 
     /// Makes it the empty route, and leaves the kept copy.
@@ -169,10 +211,11 @@ impl Overlay {
         ensures after { self.new ≡ record self.old { route = without_attribute self.old.route code } }
         ensures absent { OnFalse result (self.new ≡ self.old) }
     {
-        if attribute_in(self.section.as_slice(), code).is_none() {
+        let gap = gap_at(self.section.as_slice(), code);
+        if gap.is_empty() {
             return false;
         }
-        close_gap(self.section.as_slice(), code, &mut self.spare);
+        close_gap(self.section.as_slice(), code, gap, &mut self.spare);
         mem::swap(&mut self.section, &mut self.spare);
         true
     }
@@ -188,10 +231,18 @@ impl Overlay {
             else self.old) }
         ensures refused { OnFalse result (self.new ≡ self.old) }
     {
-        if len_with(self.section.as_slice(), code, value) > limit {
+        let gap = gap_at(self.section.as_slice(), code);
+        if len_with(self.section.as_slice(), code, gap, value) > limit {
             return false;
         }
-        fill_gap(self.section.as_slice(), code, flags, value, &mut self.spare);
+        fill_gap(
+            self.section.as_slice(),
+            code,
+            gap,
+            flags,
+            value,
+            &mut self.spare,
+        );
         mem::swap(&mut self.section, &mut self.spare);
         true
     }

@@ -1,14 +1,15 @@
 // A section of path attributes in place, as a view.
-ghost use Rattle.std.specs.Prelude.{◌≡◌, ◌≤◌, ◌∷◌, length, is_some, Ok, IfSome, IfNone};
+ghost use Rattle.std.specs.Prelude.{◌≡◌, ◌≤◌, ◌∷◌, [], length, is_some, Ok, IfSome, IfNone};
 ghost use Rattle.std.specs.Option.{option_map};
-ghost use Rattle.bgp_attr.specs.Routes.{attribute_at, route_of, Route, IsRoute};
+ghost use Rattle.bgp_attr.specs.Routes.{attribute_at, route_of, IsRoute};
 ghost use Rattle.bgp_attr.specs.Views.{attr_view};
-ghost use Rattle.xbgp_view.specs.Indexes.{index_route, walked_route};
+ghost use Rattle.xbgp_view.specs.Indexes.{index_route, entries_of};
 ghost use Rattle.xbgp_view.specs.Sections.{kept_attr};
 ghost use Rattle.xbgp_view.specs.Views.{code_from};
 
 use crate::RouteView;
 use crate::find::copy_value;
+use crate::held::Held;
 use crate::spell::kept_flags;
 use bgp_attr::{Attr, Attrs, MAX_CANONICAL};
 use std::marker::Model;
@@ -62,10 +63,10 @@ fn least_code(index: &[Option<Attr<'_>>; CODES], from: u16) -> Option<u8>
     None
 }
 
-// The next whole attribute of a walk, if there is one.
-fn next_attr<'a>(attrs: &mut Attrs<'a>) -> Option<Attr<'a>>
+/// The next whole attribute of a walk, if there is one.
+pub(crate) fn next_attr<'a>(attrs: &mut Attrs<'a>) -> Option<Attr<'a>>
     ensures item { IfSome result (λ a. attrs.old ≡ Ok (attr_view a) ∷ attrs.new) }
-    ensures end { IfNone result ((route : Route) → walked_route route attrs.old ≡ route) }
+    ensures end { IfNone result (entries_of attrs.old ≡ []) }
 {
     match attrs.next() {
         Some(Ok(attr)) => Some(attr),
@@ -89,7 +90,7 @@ impl<'a> SectionView<'a> {
     }
 
     // The attribute of a code, if the section has one.
-    fn attribute(&self, code: u8) -> Option<Attr<'a>>
+    fn found(&self, code: u8) -> Option<Attr<'a>>
         ensures shape { IsRoute self.now }
         ensures value { option_map kept_attr result ≡ attribute_at self.now code }
     {
@@ -101,12 +102,17 @@ impl RouteView for SectionView<'_> {
     ghost route = { λ v. v };
 
     fn flags_len(&self, code: u8) -> Option<(u8, usize)> {
-        let attr = self.attribute(code)?;
+        let attr = self.found(code)?;
         Some((kept_flags(attr.flags), attr.value.len()))
     }
 
+    fn attribute(&self, code: u8) -> Option<Held<'_>> {
+        let attr = self.found(code)?;
+        Some(Held::of(attr))
+    }
+
     fn copy(&self, code: u8, out: &mut [u8]) -> Option<usize> {
-        let attr = self.attribute(code)?;
+        let attr = self.found(code)?;
         copy_value(attr.value, out)
     }
 

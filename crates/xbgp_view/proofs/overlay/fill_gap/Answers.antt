@@ -10,8 +10,8 @@ use Rattle.xbgp_view.proofs.overlay.fill_gap.Goals as goal
 pub append_attribute-requires-clause-room : goal.append_attribute-requires-clause-room
 append_attribute-requires-clause-room c =
     let s = c.args.section.now in
-    let g = c.gap_at-gap.result in
-    let gap = c.gap_at-gap.ensures in
+    let g = c.args.gap in
+    let gap = c.requires.gap in
     omega (
       arith,
       c.requires.fits,
@@ -25,19 +25,19 @@ append_attribute-requires-clause-room c =
 pub append_attribute-requires-clause-short : goal.append_attribute-requires-clause-short
 append_attribute-requires-clause-short c =
     let s = c.args.section.now in
-    let g = c.gap_at-gap.result in
+    let g = c.args.gap in
     omega (
       arith,
       c.requires.fits,
-      length-canon-with_attribute s c.args.value.now c.args.code c.args.flags (g.start, g.end) c.requires.section c.gap_at-gap.ensures,
+      length-canon-with_attribute s c.args.value.now c.args.code c.args.flags (g.start, g.end) c.requires.section c.requires.gap,
       length-value-canonical (c.args.code, record { flags = kept_flags c.args.flags; value = c.args.value.now }),
     )
 
 pub append-requires : goal.append-requires
 append-requires c =
     let s = c.args.section.now in
-    let g = c.gap_at-gap.result in
-    let gap = c.gap_at-gap.ensures in
+    let g = c.args.gap in
+    let gap = c.requires.gap in
     let x = canonical (c.args.code, record { flags = c.kept_flags.result; value = c.args.value.now }) in
     omega (
       arith,
@@ -55,7 +55,7 @@ append-requires c =
 pub returns-clause-written : goal.returns-clause-written
 returns-clause-written c =
     let s = c.args.section.now in
-    let g = c.gap_at-gap.result in
+    let g = c.args.gap in
     let room = c.args.out.now.capacity in
     let x = canonical (c.args.code, record { flags = kept_flags c.args.flags; value = c.args.value.now }) in
     c.append.ensures
@@ -65,7 +65,7 @@ returns-clause-written c =
     ∙ ap (λ f. record { octets = take g.start s ++ canonical (c.args.code, record { flags = f; value = c.args.value.now }); capacity = room }) c.kept_flags.ensures)
     ∙ ap (λ t. record { octets = (take g.start s ++ x) ++ t; capacity = room }) (take_rest s g.end)
     ∙ ap (λ t. record { octets = t; capacity = room })
-    (append_assoc (take g.start s) x (drop g.end s) ∙ canon-with_attribute s c.args.value.now c.args.code c.args.flags (g.start, g.end) c.requires.section c.gap_at-gap.ensures)
+    (append_assoc (take g.start s) x (drop g.end s) ∙ canon-with_attribute s c.args.value.now c.args.code c.args.flags (g.start, g.end) c.requires.section c.requires.gap)
 
 pub returns-clause-canonical : goal.returns-clause-canonical
 returns-clause-canonical c =

@@ -3,7 +3,7 @@ use Rattle.std.proofs.lemmas.List.{length-set}
 use Rattle.bgp_attr.specs.Routes.{IsRoute}
 use Rattle.xbgp_view.specs.Indexes.{index_route, walked_route}
 use Rattle.xbgp_view.proofs.EditsLemmas.{AreOctets-slice}
-use Rattle.xbgp_view.proofs.IndexesLemmas.{index_route-set, walked_route-all}
+use Rattle.xbgp_view.proofs.IndexesLemmas.{index_route-set, walked_route-all, walked_route-end}
 use Rattle.xbgp_view.proofs.LengthsLemmas.{IsRoute-route_of}
 use Rattle.xbgp_view.proofs.section.SectionView.new.Goals as goal
 
@@ -21,10 +21,10 @@ attrs-preserved c =
     }
 
 pub returns : goal.returns
-returns c = sym (c.in_default.ensures.end (index_route 0 c.attrs.index)) ∙ c.attrs.invariant.route ∙ walked_route-all c.args.section.now
+returns c = sym (walked_route-end (index_route 0 c.attrs.index) c.attrs.attrs c.in_default.ensures.end) ∙ c.attrs.invariant.route ∙ walked_route-all c.args.section.now
 
 pub invariant_of-result : goal.invariant_of-result
 invariant_of-result c =
     subst IsRoute
-    (sym (sym (c.in_default.ensures.end (index_route 0 c.attrs.index)) ∙ c.attrs.invariant.route ∙ walked_route-all c.args.section.now))
+    (sym (sym (walked_route-end (index_route 0 c.attrs.index) c.attrs.attrs c.in_default.ensures.end) ∙ c.attrs.invariant.route ∙ walked_route-all c.args.section.now))
     (IsRoute-route_of c.args.section.now (AreOctets-slice c.args.section.now (λ i. (c.type_inv.section i).fits)) c.requires)
