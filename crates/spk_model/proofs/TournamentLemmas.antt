@@ -20,7 +20,8 @@ use Rattle.xbgp_points.specs.declared.outcome.Outcome.{Outcome}
 use Rattle.xbgp_points.specs.Engines.{Kept}
 use Rattle.xbgp_points.specs.declared.outcome.Outcome.TheVariants.{Native}
 use Rattle.xbgp_points.specs.Chains.{chain, chain_from, programs_at}
-use Rattle.xbgp_points.specs.Points.{Called, Engine, called, nobody, world_of}
+use Rattle.xbgp_points.specs.Points.{Called, Engine, called, world_of}
+use Rattle.xbgp_helpers.specs.Worlds.{nobody}
 use Rattle.spk_model.specs.Choosing.{Candidate, Choice, AreRivals}
 use Rattle.spk_model.specs.Tournaments.{Match, IsMeeting, first_match, meeting, after_meeting, meet, meet_all}
 use Rattle.spk_model.specs.Tournaments.{chosen, choose, is_second_better, is_new_preferred, is_verdict}

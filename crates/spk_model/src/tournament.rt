@@ -1,9 +1,12 @@
 //! The choice among the candidates of a prefix: each meets the champion of those before it, and a program may say which
 //! of the two is better. If none says so of any two, the native decision of all is the choice.
-ghost use Rattle.std.specs.Prelude.{◌≡◌, ◌≢◌, ◌≤◌, ◌<◌, length, map};
+ghost use Rattle.std.specs.Prelude.{◌≡◌, ◌≢◌, ◌≤◌, ◌<◌, [], length, map};
+ghost use Rattle.std.specs.Bool.{OnTrue};
 ghost use Rattle.std.specs.List.{AllPairs, slice_index_or};
 ghost use Rattle.spk_native.specs.Decision.{survivor as survivor_in};
 ghost use Rattle.spk_native.specs.declared.decision.TheConstants.{MAX_CANDIDATES};
+ghost use Rattle.xb_domain.specs.declared.point.Point.TheVariants.{Decision};
+ghost use Rattle.xbgp_points.specs.Chains.{programs_at};
 ghost use Rattle.spk_model.specs.Choosing.{AreRivals, Candidate};
 ghost use Rattle.spk_model.specs.Tournaments.{choose as choice, is_new_preferred, is_second_better, is_verdict};
 ghost use Rattle.spk_model.specs.Tournaments.{IsMeeting};
@@ -91,6 +94,13 @@ fn best_of_all<F: Field>(field: &F) -> usize
     best_of_several(field)
 }
 
+// Whether no program runs at decision.
+fn is_native(engine: &Engine) -> bool
+    ensures { OnTrue result (programs_at engine.now.manifest Decision ≡ []) }
+{
+    !engine.runs_at_decision()
+}
+
 /// The index of the best of the candidates for `prefix`. The programs at decision run on pairs of them in turn.
 pub fn choose<F: Field>(engine: &mut Engine, prefix: Prefix, field: &F) -> usize
     requires some { 1 ≤ length (F.candidates field.now) }
@@ -103,7 +113,7 @@ pub fn choose<F: Field>(engine: &mut Engine, prefix: Prefix, field: &F) -> usize
         (choice engine.old.manifest engine.old.local engine.old.engine prefix (F.candidates field.now)).engine }
     ensures same { (engine.new.manifest ≡ engine.old.manifest) × (engine.new.local ≡ engine.old.local) }
 {
-    if !engine.runs_at_decision() {
+    if is_native(engine) {
         return best_of_all(field);
     }
     let mut champion = 0;

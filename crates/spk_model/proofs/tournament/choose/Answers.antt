@@ -1,22 +1,22 @@
-use Rattle.std.proofs.Common.{◌≡◌, refl, ◌∙◌, arith, ◌+◌, ◌<◌}
+use Rattle.std.proofs.Common.{◌≡◌, refl, sym, ◌∙◌, arith, ◌+◌, ◌<◌}
 use Rattle.std.specs.Prelude.{if◌then◌else◌, ◌||◌}
 use Rattle.spk_model.specs.Tournaments.{is_verdict}
-use Rattle.spk_model.proofs.TournamentLemmas.{comes_first, comes_next}
+use Rattle.spk_model.proofs.TournamentLemmas.{comes_first, comes_next, native_choice}
 use Rattle.spk_model.proofs.tournament.choose.Goals as goal
 use Rattle.spk_model.proofs.tournament.choose.Goals.{then-by_program, else-by_program}
 use Rattle.spk_model.proofs.tournament.choose.Goals.{then-is_new_preferred, else-is_new_preferred}
 
-pub returns-then-not-runs_at_decision-clause-index : goal.returns-then-not-runs_at_decision-clause-index
-returns-then-not-runs_at_decision-clause-index g c =
+pub returns-then-is_native-clause-index : goal.returns-then-is_native-clause-index
+returns-then-is_native-clause-index g c =
     c.best_of_all.ensures.index ∙ sym (native_choice c.args.engine.now.manifest c.args.engine.now.local
     c.args.engine.now.engine c.args.prefix (g.F.Field.candidates c.args.field.now)
-    (none_at c.if-not-runs_at_decision.true c.runs_at_decision.ensures) c.requires.some).0
+    c.if-is_native.ensures c.requires.some).0
 
-pub returns-then-not-runs_at_decision-clause-engine : goal.returns-then-not-runs_at_decision-clause-engine
-returns-then-not-runs_at_decision-clause-engine g c =
+pub returns-then-is_native-clause-engine : goal.returns-then-is_native-clause-engine
+returns-then-is_native-clause-engine g c =
     sym (native_choice c.args.engine.now.manifest c.args.engine.now.local
     c.args.engine.now.engine c.args.prefix (g.F.Field.candidates c.args.field.now)
-    (none_at c.if-not-runs_at_decision.true c.runs_at_decision.ensures) c.requires.some).1
+    c.if-is_native.ensures c.requires.some).1
 
 pub loop-i-init : goal.loop-i-init
 loop-i-init g c = record {
