@@ -87,8 +87,8 @@ fn load(insn: &Insn, regs: &mut [u64; 11], slot: u64, memory: &Memory<'_>) -> St
     requires slot { slot < MAX_SLOTS }
     requires dst { insn.now.dst ≤ FRAME_POINTER }
     requires src { insn.now.src ≤ FRAME_POINTER }
-    ensures {
-        let loaded = load memory.now (access_address regs.old insn.now.src insn.now) (access_size insn.now.opcode) in
+    ensures { let at = access_address regs.old insn.now.src insn.now in
+        let loaded = load memory.now at (access_size insn.now.opcode) in
         let did = load_step (machine regs.old memory.now slot) insn.now loaded in
         Does did result regs.old regs.new memory.now memory.now }
 {
@@ -106,7 +106,8 @@ fn load(insn: &Insn, regs: &mut [u64; 11], slot: u64, memory: &Memory<'_>) -> St
 #[inline(always)]
 fn store(insn: &Insn, base: u64, value: u64, slot: u64, memory: &mut Memory<'_>) -> Step
     requires { slot < MAX_SLOTS }
-    ensures { let stored = store memory.old ((base + word insn.now.offset) % 2 ^ 64) (access_size insn.now.opcode) value in
+    ensures { let at = (base + word insn.now.offset) % 2 ^ 64 in
+        let stored = store memory.old at (access_size insn.now.opcode) value in
         (regs : List ℕ)
         → Does (store_step (machine regs memory.old slot) stored) result regs regs memory.old memory.new }
 {
@@ -124,7 +125,8 @@ fn arithmetic(insn: &Insn, regs: &mut [u64; 11], slot: u64) -> Step
     requires dst { insn.now.dst ≤ FRAME_POINTER }
     requires src { insn.now.src ≤ FRAME_POINTER }
     ensures { let n = computed insn.now (reg regs.old insn.now.dst) (operand regs.old insn.now) in
-        (m : Memory) → Does (set_step (machine regs.old m slot) insn.now.dst n (slot + 1)) result regs.old regs.new m m }
+        (m : Memory)
+        → Does (set_step (machine regs.old m slot) insn.now.dst n (slot + 1)) result regs.old regs.new m m }
 {
     let dst = usize::from(insn.dst);
     let y = operand(insn, regs);
