@@ -79,6 +79,17 @@ impl Code {
         ensures low_half { result.imm % 2 ^ 32 ≡ raw_imm self.now i }
         ensures sound { IsSound self.now i }
     {
-        self.insns[i as usize]
+        *self.get(i)
+    }
+
+    /// The instruction at slot `i`, lent: who needs some of its fields reads no others.
+    #[inline(always)]
+    pub fn get(&self, i: u32) -> &Insn
+        requires { IsTrue (begins self.now i) }
+        ensures value { result.now ≡ insn_at self.now i }
+        ensures low_half { result.now.imm % 2 ^ 32 ≡ raw_imm self.now i }
+        ensures sound { IsSound self.now i }
+    {
+        &self.insns[i as usize]
     }
 }

@@ -3,7 +3,7 @@
 //! Bytecode is a list of slots of eight octets. `load` checks it once and returns either its first fault, by kind and
 //! slot, or `Code`, which keeps the octets as they were loaded. The checks are made in a fixed order: the length, then
 //! slot by slot each instruction (its form, its registers, its jump, its helper), then the end. Then each slot is
-//! decoded once, and `Code::at` looks an instruction up, since a run asks for one at each step.
+//! decoded once, and `Code::get` lends an instruction, since a run asks for one at each step.
 //!
 //! What the loader guarantees is in `specs/Sound`: each jump of accepted code goes to an instruction, r10 is never
 //! written, only allowed helpers are called, and after each instruction that may go on there is another one. So a

@@ -1,5 +1,5 @@
 -- What a run keeps and shows of a world.
-use Rattle.std.proofs.Common.{◌≡◌, refl, sym, ◌∙◌, ap, ℕ, zero, suc, List}
+use Rattle.std.proofs.Common.{◌≡◌, refl, ◌∙◌, ap, ℕ, zero, suc, List}
 use Rattle.bpf_mem.specs.Memory.{Memory}
 use Rattle.bpf_machine.specs.declared.world.Called.{Called}
 use Rattle.bpf_machine.specs.declared.world.Called.TheVariants as called

@@ -171,8 +171,8 @@ fn result_low(operation: u8, offset: u64, x: u64, y: u64) -> u64
 // The result of arithmetic on the destination and the second operand.
 #[tactic(auto, unfolding(crate::specs::Steps::computed))]
 #[inline(always)]
-pub(crate) fn computed(insn: Insn, x: u64, y: u64) -> u64
-    ensures { result ≡ computed insn x y }
+pub(crate) fn computed(insn: &Insn, x: u64, y: u64) -> u64
+    ensures { result ≡ computed insn.now x y }
 {
     let operation = operation(insn.opcode);
     if operation == END {
@@ -231,8 +231,8 @@ fn comparison_32(operation: u8, x: u32, y: u32) -> bool
 // Whether a conditional jump is taken.
 #[tactic(auto, unfolding(crate::specs::Steps::is_taken))]
 #[inline(always)]
-pub(crate) fn is_taken(insn: Insn, x: u64, y: u64) -> bool
-    ensures { result ≡ is_taken insn x y }
+pub(crate) fn is_taken(insn: &Insn, x: u64, y: u64) -> bool
+    ensures { result ≡ is_taken insn.now x y }
 {
     let operation = operation(insn.opcode);
     if class(insn.opcode) == JMP {

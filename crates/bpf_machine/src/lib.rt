@@ -1,10 +1,10 @@
 //! The machine that runs BPF bytecode (RFC 9669).
 //!
 //! `run` takes code that the loader accepted, a program's memory, a world and fuel. It starts at slot 0 and takes one
-//! instruction after another: it decodes the instruction from the code's octets (`Code::at`) and does it on eleven
-//! registers and the memory. The run ends when the program exits, when a helper says so, when an access is outside
-//! memory, or when the fuel is used up; one instruction costs one unit. Nothing is allocated, and since execution never
-//! leaves accepted code, the machine has no checks of its own except those of memory.
+//! instruction after another: it borrows the instruction from the code (`Code::get`) and does it on eleven registers
+//! and the memory. The run ends when the program exits, when a helper says so, when an access is outside memory, or when
+//! the fuel is used up; one instruction costs one unit. Nothing is allocated, and since execution never leaves accepted
+//! code, the machine has no checks of its own except those of memory.
 //!
 //! Which helpers a program may call, and what they do, is up to the caller: a world implements `Helpers`, and `run` is
 //! proved for each world that keeps the contract of that trait. A world may borrow what it writes; `names` says that

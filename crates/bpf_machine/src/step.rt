@@ -31,9 +31,9 @@ pub(crate) enum Step {
 
 // The second operand: a register, or the immediate.
 #[inline(always)]
-fn operand(insn: Insn, regs: &[u64; 11]) -> u64
-    requires { insn.src ≤ FRAME_POINTER }
-    ensures { result ≡ operand regs.now insn }
+fn operand(insn: &Insn, regs: &[u64; 11]) -> u64
+    requires { insn.now.src ≤ FRAME_POINTER }
+    ensures { result ≡ operand regs.now insn.now }
 {
     if by_register(insn.opcode) {
         regs[usize::from(insn.src)]
@@ -44,15 +44,14 @@ fn operand(insn: Insn, regs: &[u64; 11]) -> u64
 
 // An address: a base and the offset, modulo 2^64.
 #[inline(always)]
-fn access_address(insn: Insn, base: u64) -> u64
-    ensures { result ≡ (base + word insn.offset) % 2 ^ 64 }
+fn access_address(insn: &Insn, base: u64) -> u64
+    ensures { result ≡ (base + word insn.now.offset) % 2 ^ 64 }
 {
     base.wrapping_add(offset_word(insn))
 }
 
-// The slot at a distance from the slot after a jump. It is a call, so that a conditional jump stays a branch, which the
-// processor guesses: inlined, it would be a conditional move, which waits for the comparison.
-#[inline(never)]
+// The slot at a distance from the slot after a jump.
+#[inline(always)]
 fn jump_target(slot: u64, distance: u64) -> u64
     requires { slot < MAX_SLOTS }
     ensures { result ≡ jump_target slot distance }
@@ -60,23 +59,23 @@ fn jump_target(slot: u64, distance: u64) -> u64
     (slot + 1).wrapping_add(distance)
 }
 
-// A jump, a call or an end.
+// A jump, a call or an end. The offset is read only where a jump is taken, so that a conditional jump stays a branch,
+// which the processor guesses: read before, it would become a conditional move, which waits for the comparison.
 #[tactic(auto, unfolding(crate::specs::Steps::jump_step))]
 #[inline(always)]
-fn jump(insn: Insn, regs: &[u64; 11], slot: u64) -> Step
+fn jump(insn: &Insn, regs: &[u64; 11], slot: u64) -> Step
     requires slot { slot < MAX_SLOTS }
-    requires dst { insn.dst ≤ FRAME_POINTER }
-    requires src { insn.src ≤ FRAME_POINTER }
-    ensures { (m : Memory) → Does (jump_step (machine regs.now m slot) insn) result regs.now regs.now m m }
+    requires dst { insn.now.dst ≤ FRAME_POINTER }
+    requires src { insn.now.src ≤ FRAME_POINTER }
+    ensures { (m : Memory) → Does (jump_step (machine regs.now m slot) insn.now) result regs.now regs.now m m }
 {
-    let offset = offset_word(insn);
     match operation(insn.opcode) {
-        JA if class(insn.opcode) == JMP => Step::Goes(jump_target(slot, offset)),
+        JA if class(insn.opcode) == JMP => Step::Goes(jump_target(slot, offset_word(insn))),
         JA => Step::Goes(jump_target(slot, insn.imm)),
         CALL => Step::Calls(low_32(insn.imm)),
         EXIT => Step::Ends(regs[0]),
         _ if is_taken(insn, regs[usize::from(insn.dst)], operand(insn, regs)) => {
-            Step::Goes(jump_target(slot, offset))
+            Step::Goes(jump_target(slot, offset_word(insn)))
         }
         _ => Step::Goes(slot + 1),
     }
@@ -84,12 +83,14 @@ fn jump(insn: Insn, regs: &[u64; 11], slot: u64) -> Step
 
 // A load from memory.
 #[inline(always)]
-fn load(insn: Insn, regs: &mut [u64; 11], slot: u64, memory: &Memory<'_>) -> Step
+fn load(insn: &Insn, regs: &mut [u64; 11], slot: u64, memory: &Memory<'_>) -> Step
     requires slot { slot < MAX_SLOTS }
-    requires dst { insn.dst ≤ FRAME_POINTER }
-    requires src { insn.src ≤ FRAME_POINTER }
-    ensures { let loaded = load memory.now (access_address regs.old insn.src insn) (access_size insn.opcode) in
-        Does (load_step (machine regs.old memory.now slot) insn loaded) result regs.old regs.new memory.now memory.now }
+    requires dst { insn.now.dst ≤ FRAME_POINTER }
+    requires src { insn.now.src ≤ FRAME_POINTER }
+    ensures { let at = access_address regs.old insn.now.src insn.now in
+        let loaded = load memory.now at (access_size insn.now.opcode) in
+        let did = load_step (machine regs.old memory.now slot) insn.now loaded in
+        Does did result regs.old regs.new memory.now memory.now }
 {
     let at = access_address(insn, regs[usize::from(insn.src)]);
     match memory.load(at, access_size(insn.opcode)) {
@@ -103,9 +104,10 @@ fn load(insn: Insn, regs: &mut [u64; 11], slot: u64, memory: &Memory<'_>) -> Ste
 
 // A store of a value into memory.
 #[inline(always)]
-fn store(insn: Insn, base: u64, value: u64, slot: u64, memory: &mut Memory<'_>) -> Step
+fn store(insn: &Insn, base: u64, value: u64, slot: u64, memory: &mut Memory<'_>) -> Step
     requires { slot < MAX_SLOTS }
-    ensures { let stored = store memory.old ((base + word insn.offset) % 2 ^ 64) (access_size insn.opcode) value in
+    ensures { let at = (base + word insn.now.offset) % 2 ^ 64 in
+        let stored = store memory.old at (access_size insn.now.opcode) value in
         (regs : List ℕ)
         → Does (store_step (machine regs memory.old slot) stored) result regs regs memory.old memory.new }
 {
@@ -118,12 +120,13 @@ fn store(insn: Insn, base: u64, value: u64, slot: u64, memory: &mut Memory<'_>) 
 
 // Arithmetic.
 #[inline(always)]
-fn arithmetic(insn: Insn, regs: &mut [u64; 11], slot: u64) -> Step
+fn arithmetic(insn: &Insn, regs: &mut [u64; 11], slot: u64) -> Step
     requires slot { slot < MAX_SLOTS }
-    requires dst { insn.dst ≤ FRAME_POINTER }
-    requires src { insn.src ≤ FRAME_POINTER }
-    ensures { let n = computed insn (reg regs.old insn.dst) (operand regs.old insn) in
-        (m : Memory) → Does (set_step (machine regs.old m slot) insn.dst n (slot + 1)) result regs.old regs.new m m }
+    requires dst { insn.now.dst ≤ FRAME_POINTER }
+    requires src { insn.now.src ≤ FRAME_POINTER }
+    ensures { let n = computed insn.now (reg regs.old insn.now.dst) (operand regs.old insn.now) in
+        (m : Memory)
+        → Does (set_step (machine regs.old m slot) insn.now.dst n (slot + 1)) result regs.old regs.new m m }
 {
     let dst = usize::from(insn.dst);
     let y = operand(insn, regs);
@@ -135,16 +138,17 @@ fn arithmetic(insn: Insn, regs: &mut [u64; 11], slot: u64) -> Step
 #[inline(always)]
 fn take_insn(
     opcode: u8,
-    insn: Insn,
+    insn: &Insn,
     regs: &mut [u64; 11],
     slot: u64,
     memory: &mut Memory<'_>,
 ) -> Step
-    requires opcode { opcode ≡ insn.opcode }
+    requires opcode { opcode ≡ insn.now.opcode }
     requires slot { slot < MAX_SLOTS }
-    requires dst { insn.dst ≤ FRAME_POINTER }
-    requires src { insn.src ≤ FRAME_POINTER }
-    ensures { Does (insn_step insn (machine regs.old memory.old slot)) result regs.old regs.new memory.old memory.new }
+    requires dst { insn.now.dst ≤ FRAME_POINTER }
+    requires src { insn.now.src ≤ FRAME_POINTER }
+    ensures { let did = insn_step insn.now (machine regs.old memory.old slot) in
+        Does did result regs.old regs.new memory.old memory.new }
 {
     let dst = usize::from(insn.dst);
     let src = usize::from(insn.src);
@@ -162,7 +166,8 @@ fn take_insn(
 }
 
 // A match with an arm for each opcode that is listed. In its arm an opcode is a constant, so the compiler makes code
-// for that opcode alone, and one jump leads to it. An opcode that isn't listed is taken as well, but slower.
+// for that opcode alone, and one jump leads to it. An opcode that isn't listed is taken as well, but slower. With the
+// least and the greatest octet listed, that jump needs no test of its range.
 macro_rules! match_opcodes {
     ($insn:ident, $regs:ident, $slot:ident, $memory:ident; $($opcode:literal)*) => {
         match $insn.opcode {
@@ -172,16 +177,17 @@ macro_rules! match_opcodes {
     };
 }
 
-// One instruction, by its opcode; all opcodes of the profile are listed.
+// One instruction, by its opcode; all opcodes of the profile are listed, and 0x00 and 0xff for the range alone.
 #[inline(always)]
-fn take_by_opcode(insn: Insn, regs: &mut [u64; 11], slot: u64, memory: &mut Memory<'_>) -> Step
+fn take_by_opcode(insn: &Insn, regs: &mut [u64; 11], slot: u64, memory: &mut Memory<'_>) -> Step
     requires slot { slot < MAX_SLOTS }
-    requires dst { insn.dst ≤ FRAME_POINTER }
-    requires src { insn.src ≤ FRAME_POINTER }
-    ensures { Does (insn_step insn (machine regs.old memory.old slot)) result regs.old regs.new memory.old memory.new }
+    requires dst { insn.now.dst ≤ FRAME_POINTER }
+    requires src { insn.now.src ≤ FRAME_POINTER }
+    ensures { let did = insn_step insn.now (machine regs.old memory.old slot) in
+        Does did result regs.old regs.new memory.old memory.new }
 {
     match_opcodes!(insn, regs, slot, memory;
-        0x18
+        0x00 0x18
         0x61 0x69 0x71 0x79 0x81 0x89 0x91
         0x62 0x6a 0x72 0x7a
         0x63 0x6b 0x73 0x7b
@@ -192,7 +198,7 @@ fn take_by_opcode(insn: Insn, regs: &mut [u64; 11], slot: u64, memory: &mut Memo
         0x06 0x16 0x1e 0x26 0x2e 0x36 0x3e 0x46 0x4e 0x56 0x5e 0x66 0x6e 0x76
         0x7e 0xa6 0xae 0xb6 0xbe 0xc6 0xce 0xd6 0xde
         0x07 0x0f 0x17 0x1f 0x27 0x2f 0x37 0x3f 0x47 0x4f 0x57 0x5f 0x67 0x6f
-        0x77 0x7f 0x87 0x97 0x9f 0xa7 0xaf 0xb7 0xbf 0xc7 0xcf 0xd7
+        0x77 0x7f 0x87 0x97 0x9f 0xa7 0xaf 0xb7 0xbf 0xc7 0xcf 0xd7 0xff
     )
 }
 
@@ -211,6 +217,6 @@ pub(crate) fn take_step(
     ensures does { let did = take_step code.now (machine regs.old memory.old slot) in
         Does did result regs.old regs.new memory.old memory.new }
 {
-    let insn = code.at(slot as u32);
+    let insn = code.get(slot as u32);
     take_by_opcode(insn, regs, slot, memory)
 }

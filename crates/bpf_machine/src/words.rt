@@ -182,8 +182,8 @@ pub(crate) fn swapped_octets(bits: u32, x: u64) -> u64
 
 // An offset with its sign, in 64 bits.
 #[inline(always)]
-pub(crate) fn offset_word(insn: Insn) -> u64
-    ensures { result ≡ word insn.offset }
+pub(crate) fn offset_word(insn: &Insn) -> u64
+    ensures { result ≡ word insn.now.offset }
 {
     i64::from(insn.offset).cast_unsigned()
 }

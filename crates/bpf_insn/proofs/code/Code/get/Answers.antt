@@ -2,7 +2,7 @@ use Rattle.std.proofs.Common.{ap, ◌∙◌, ◌<◌, ◌%◌, ◌^◌}
 use Rattle.bpf_insn.specs.Slots.{slots}
 use Rattle.bpf_insn.proofs.InsnLemmas.{begins-slots}
 use Rattle.bpf_insn.proofs.LoadLemmas.{IsSound-begins}
-use Rattle.bpf_insn.proofs.code.Code.at.Goals as goal
+use Rattle.bpf_insn.proofs.code.Code.get.Goals as goal
 
 pub returns-clause-low_half : goal.returns-clause-low_half
 returns-clause-low_half c =
