@@ -7,14 +7,13 @@ use Rattle.std.specs.List.{concat}
 use Rattle.std.specs.Option.{option_and_then, option_map}
 use Rattle.std.proofs.Math.Dec.{eqb-suc-zero}
 use Rattle.xb_words.specs.Cut.{cut, walk, walk_from, with_offsets}
-use Rattle.xb_words.specs.Table.{with_value, without}
-use Rattle.xb_values.specs.Prefixes.{Sections, prefix_cmp, prefix_at, prefix_size, are_prefixes}
+use Rattle.xb_values.specs.Prefixes.{Sections, prefix_at, prefix_size, prefixes, are_prefixes}
 use Rattle.xb_wire.specs.Messages.{Update, update_parts, lengths_fit, message_kind, message_body, split}
 use Rattle.xb_wire.specs.declared.numbers.TheConstants.{UPDATE}
-use Rattle.bgp_update.specs.Heard.{heard, after_message, after_update, withdrawn_from, announced_in, is_readable}
+use Rattle.bgp_update.specs.Heard.{heard, after_message, after_update, withdrawn_from, is_readable}
 use Rattle.bgp_update.specs.Heard.{is_refused}
 use Rattle.bgp_update.specs.Walks.{found_message, messages_from, prefixes_from}
-use Rattle.heard_table.specs.Steps.{withdraw, announce, parts_step, update_step, message_step, after_messages}
+use Rattle.heard_table.specs.Steps.{change, change_each, parts_step, update_step, message_step, after_messages}
 use Rattle.heard_table.specs.Steps.{or_refused}
 
 -- the table after octets that are whole
@@ -24,35 +23,33 @@ if_whole b x = if b then Some x else None
 some_left : (b : ℕ) (rest : List ℕ) → (length (b ∷ rest) == 0) ≡ false
 some_left b rest = eqb-suc-zero (length rest)
 
-withdraw-walk : (at : ℕ) (items : List (List ℕ)) (rest : List ℕ) (table : Sections)
-    → withdraw (walk (λ i. prefix_at) (λ i. tt) at items rest) table ≡ if_whole (length rest == 0) (fold (without prefix_cmp) table (map prefix_at items))
-withdraw-walk at [] [] table = refl
-withdraw-walk at [] (b ∷ rest) table = ap (λ k. if_whole k table) (sym (some_left b rest))
-withdraw-walk at (x ∷ items) rest table = withdraw-walk (at + length x) items rest (without prefix_cmp table (prefix_at x))
+change_each-walk : (at : ℕ) (items : List (List ℕ)) (rest : List ℕ) (becomes : Option (List ℕ)) (table : Sections)
+    → change_each (walk (λ i. prefix_at) (λ i. tt) at items rest) becomes table
+    ≡ if_whole (length rest == 0) (fold (change becomes) table (map prefix_at items))
+change_each-walk at [] [] becomes table = refl
+change_each-walk at [] (b ∷ rest) becomes table = ap (λ k. if_whole k table) (sym (some_left b rest))
+change_each-walk at (x ∷ items) rest becomes table =
+    change_each-walk (at + length x) items rest becomes (change becomes table (prefix_at x))
 
-withdraw-prefixes_from : (octets : List ℕ) (table : Sections) → withdraw (prefixes_from octets) table ≡ if_whole (are_prefixes octets) (withdrawn_from table octets)
+change_each-prefixes_from : (octets : List ℕ) (becomes : Option (List ℕ)) (table : Sections)
+    → change_each (prefixes_from octets) becomes table
+    ≡ if_whole (are_prefixes octets) (fold (change becomes) table (prefixes octets))
 unfolding walk_from
-withdraw-prefixes_from octets table = withdraw-walk 0 (cut prefix_size octets).items (cut prefix_size octets).rest table
-
-announce-walk : (at : ℕ) (items : List (List ℕ)) (rest section : List ℕ) (table : Sections)
-    → announce (walk (λ i. prefix_at) (λ i. tt) at items rest) section table ≡ if_whole (length rest == 0) (fold (λ t p. with_value prefix_cmp t p section) table (map prefix_at items))
-announce-walk at [] [] section table = refl
-announce-walk at [] (b ∷ rest) section table = ap (λ k. if_whole k table) (sym (some_left b rest))
-announce-walk at (x ∷ items) rest section table = announce-walk (at + length x) items rest section (with_value prefix_cmp table (prefix_at x) section)
-
-announce-prefixes_from : (octets section : List ℕ) (table : Sections) → announce (prefixes_from octets) section table ≡ if_whole (are_prefixes octets) (announced_in table octets section)
-unfolding walk_from
-announce-prefixes_from octets section table = announce-walk 0 (cut prefix_size octets).items (cut prefix_size octets).rest section table
+change_each-prefixes_from octets becomes table =
+    change_each-walk 0 (cut prefix_size octets).items (cut prefix_size octets).rest becomes table
 
 if_whole-both : (w n : Bool) (after : Sections) (last : Sections → Sections) → option_and_then (λ t. if_whole n (last t)) (if_whole w after) ≡ if_whole (w && n) (last after)
 if_whole-both true n after last = refl
 if_whole-both false n after last = refl
 
-parts_step-if_whole : (u : Update) (table : Sections) → parts_step u table ≡ if_whole (are_prefixes u.withdrawn && are_prefixes u.nlri) (after_update table u)
+parts_step-if_whole : (u : Update) (table : Sections)
+    → parts_step u table ≡ if_whole (are_prefixes u.withdrawn && are_prefixes u.nlri) (after_update table u)
 parts_step-if_whole u table =
-    ap (option_and_then (announce (prefixes_from u.nlri) u.section)) (withdraw-prefixes_from u.withdrawn table)
-    ∙ elim (are_prefixes u.withdrawn) as (λ w. option_and_then (announce (prefixes_from u.nlri) u.section) (if_whole w (withdrawn_from table u.withdrawn)) ≡ if_whole (w && are_prefixes u.nlri) (after_update table u)) [
-      | true ↦ announce-prefixes_from u.nlri u.section (withdrawn_from table u.withdrawn)
+    ap (option_and_then (change_each (prefixes_from u.nlri) (Some u.section)))
+    (change_each-prefixes_from u.withdrawn None table)
+    ∙ elim (are_prefixes u.withdrawn) as (λ w. option_and_then (change_each (prefixes_from u.nlri) (Some u.section))
+    (if_whole w (withdrawn_from table u.withdrawn)) ≡ if_whole (w && are_prefixes u.nlri) (after_update table u)) [
+      | true ↦ change_each-prefixes_from u.nlri (Some u.section) (withdrawn_from table u.withdrawn)
       | false ↦ refl
     ]
 
