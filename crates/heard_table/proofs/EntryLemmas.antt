@@ -54,7 +54,7 @@ module _ {K X : Type 0} (c : K → K → Ordering) (o : IsTotalOrder c) where
       → IsRising c (y ∷ ys) → value_at c (x ∷ xs) x.0 ≡ value_at c (y ∷ ys) x.0 → P
   not_first x xs y ys l ry same =
       let none : value_at c (y ∷ ys) x.0 ≡ None =
-          value_at-above c o x.0 (y ∷ ys) (l, Each-trans c o x.0 y ys l (IsRising-head c o y ys ry)) in
+      value_at-above c o x.0 (y ∷ ys) (l, Each-trans c o x.0 y ys l (IsRising-head c o y ys ry)) in
       let some : Some x.1 ≡ value_at c (y ∷ ys) x.0 = rw (tied_itself o x.0) at same in
       absurd (cc (some, none))
 
@@ -65,7 +65,7 @@ module _ {K X : Type 0} (c : K → K → Ordering) (o : IsTotalOrder c) where
   same_after x xs y ys k e rx ry same =
       let alike : c k x.0 ≡ c k y.0 = alike_right o x.0 y.0 k e in
       let past : (r : Ordering) → c k x.0 ≡ r → is_eq r ≡ false → value_at c xs k ≡ value_at c ys k =
-          λ r is other. rw (sym alike ∙ is, is, other) at same in
+      λ r is other. rw (sym alike ∙ is, is, other) at same in
       by_ordering (c k x.0)
       (λ l. past Less l refl)
       (λ here. value_at-above c o k xs (Each-congr c o k x xs here (IsRising-head c o x xs rx))
@@ -93,6 +93,6 @@ module _ {K X : Type 0} (c : K → K → Ordering) (o : IsTotalOrder c) where
       let value : x.1 ≡ y.1 = cc found in
       let first : x ≡ y = λ i. (key i, value i) in
       let rest : xs ≡ ys = same_values exact xs ys (IsRising-tail c o x xs rx) (IsRising-tail c o y ys ry)
-          (λ k. same_after x xs y ys k e rx ry (same k)) in
+      (λ k. same_after x xs y ys k e rx ry (same k)) in
       λ i. first i ∷ rest i)
       (λ g. not_first y ys x xs (less_from_greater c o y.0 x.0 g) rx (sym (same y.0)))

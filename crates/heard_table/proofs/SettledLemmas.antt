@@ -1,19 +1,21 @@
 -- Sorted changes leave the table that the changes leave in turn: of each prefix both have what its last change says.
-use Rattle.std.proofs.Common.{◌≡◌, ℕ, ◌<◌, ◌≤◌, ◌⊎◌, inl, inr, Bool, true, false, List, [], ◌∷◌, length, Option, Some, None, refl}
-use Rattle.std.proofs.Common.{sym, ◌∙◌, ap, subst, arith, suc, slice_index_or, nat_lt, ◌&&◌}
+use Rattle.std.proofs.Common.{◌≡◌, ℕ, ◌≤◌, ◌⊎◌, inl, inr, Bool, true, false, List, [], ◌∷◌, Option, Some, None, refl}
+use Rattle.std.proofs.Common.{sym, ◌∙◌, ap, subst, arith, zero, suc, slice_index_or, nat_lt, ◌+◌, drop}
 use Rattle.std.specs.Prelude.{◌==◌}
-use Rattle.std.specs.List.{All, AllByRecursion, Contains}
-use Rattle.std.specs.List.Sorted.{IsNonDecreasingBy, IsPermutation, IsSorted, IsSortedBy, IsStrictlySortedBy}
-use Rattle.std.specs.Cmp.{IsTotalOrder, IsStrictWeakOrder}
-use Rattle.std.specs.Ordering.{is_eq, is_lt, nat_cmp, ordering_then}
-use Rattle.std.specs.declared.cmp.Ordering.{Ordering}
-use Rattle.std.specs.declared.cmp.Ordering.TheVariants.{Less, Equal, Greater}
+use Rattle.std.specs.List.{All, Contains}
+use Rattle.std.specs.List.Sorted.{IsNonDecreasingBy, IsPermutation, IsSorted, IsStrictlySortedBy}
+use Rattle.std.specs.List.Sorted.{IsPartitionedBy, IsPartitionPoint}
+use Rattle.std.specs.Option.{IfSome, IfNone, option_map}
+use Rattle.std.specs.Cmp.{IsTotalOrder}
+use Rattle.std.specs.Ordering.{is_eq, is_le, is_lt, nat_cmp, ordering_reverse}
+use Rattle.std.specs.declared.cmp.Ordering.TheVariants.{Less, Greater}
 use Rattle.std.proofs.lemmas.Bool.{cases_Bool, and_parts, eqb-true, eq-eqb, ltb-false}
-use Rattle.std.proofs.lemmas.Cmp.{tied_itself, nat_cmp_total, on_total, then_total}
+use Rattle.std.proofs.lemmas.Cmp.{alike_right, tied_itself, nat_cmp_total, on_total, then_total}
 use Rattle.std.proofs.lemmas.List.Elements.{All-nil, All-cons, All-head, All-tail, All-weaker, All-contains}
 use Rattle.std.proofs.lemmas.List.Elements.{Contains-append_right}
-use Rattle.std.proofs.lemmas.List.Sorted.{All-permutation, Contains-permutation, IsPermutation-sym, ranks_by, sorted_far}
-use Rattle.xb_words.specs.Table.{value_at, with_value, without, IsRising}
+use Rattle.std.proofs.lemmas.List.Sorted.{All-permutation, Contains-permutation, ranks_by, sorted_far}
+use Rattle.xb_words.specs.Table.{value_at, entries_after, first_of, IsRising}
+use Rattle.std.proofs.Math.Seq.{drop-nil}
 use Rattle.xb_words.proofs.TableLemmas.{IsRising-with_value, IsRising-without, value_at-with_value}
 use Rattle.xb_words.proofs.TableSplitLemmas.{Each, IsRising-cons, value_at-above, less_from_greater}
 use Rattle.xb_values.specs.Prefixes.{Prefix, Sections, prefix_cmp}
@@ -45,11 +47,15 @@ module _ (parts : List (Option (List ℕ))) where
       → Leaves xs p before after → Leaves ys p before after
   Leaves-permutation xs ys p before after moved (inl (none, is)) =
       inl (All-permutation (λ d. d.prefix ≡ p → ⊥) xs ys moved none, is)
-  Leaves-permutation xs ys p before after moved (inr (c, last, is)) = inr (c, record {
-    there = Contains-permutation xs ys c moved last.there;
-    here = last.here;
-    top = All-permutation (λ d. d.prefix ≡ p → d.part ≤ c.part) xs ys moved last.top;
-  }, is)
+  Leaves-permutation xs ys p before after moved (inr (c, last, is)) = inr (
+    c,
+    record {
+      there = Contains-permutation xs ys c moved last.there;
+      here = last.here;
+      top = All-permutation (λ d. d.prefix ≡ p → d.part ≤ c.part) xs ys moved last.top;
+    },
+    is,
+  )
 
   -- and they leave one value
   Leaves-one : (cs : List Change) (p : Prefix) (before x y : Option (List ℕ)) → Leaves cs p before x
@@ -126,17 +132,25 @@ module _ (parts : List (Option (List ℕ))) where
       let b : Option (List ℕ) = part_at parts c.part in
       let later : All (λ d. c.part ≤ d.part) cs = λ k d below. turn 0 (suc k) d (omega arith) (omega (arith, below)) in
       let tail : IsNonDecreasingBy (λ c. c.part) cs =
-          λ i j d le below. turn (suc i) (suc j) d (omega (arith, le)) (omega (arith, below)) in
+      λ i j d le below. turn (suc i) (suc j) d (omega (arith, le)) (omega (arith, below)) in
       elim (played-leaves cs (change b t c.prefix) p (IsRising-change b t c.prefix rising) tail) [
         | inl found ↦ same_prefix p c.prefix
-            (λ same. inr (c, last_first parts c cs p (sym same) found.0, found.1
-            ∙ subst (λ (q : Prefix). value_at prefix_cmp (change b t c.prefix) q ≡ b) (sym same) (value_at-change b t c.prefix rising)))
+            (λ same. inr (
+              c,
+              last_first parts c cs p (sym same) found.0,
+              found.1
+                  ∙ subst (λ (q : Prefix). value_at prefix_cmp (change b t c.prefix) q ≡ b) (sym same) (value_at-change b t c.prefix rising),
+            ))
             (λ other. inl (
               All-cons (λ d. d.prefix ≡ p → ⊥) c cs (apart_from p c.prefix other) found.0,
               found.1 ∙ value_at-change-other b t c.prefix p other,
             ))
-        | inr found ↦ inr (found.0, last_later parts c cs p found.0 found.1 (λ here.
-            All-contains (λ d. c.part ≤ d.part) cs found.0 later found.1.there), found.2)
+        | inr found ↦ inr (
+          found.0,
+          last_later parts c cs p found.0 found.1 (λ here.
+              All-contains (λ d. c.part ≤ d.part) cs found.0 later found.1.there),
+          found.2,
+        )
       ]
 
 change_total : IsTotalOrder change_cmp
@@ -158,7 +172,7 @@ by_order c d not less same = by_ordering (prefix_cmp d.prefix c.prefix)
     not_less : (a b : ℕ) → is_lt (nat_cmp a b) ≡ false → b ≤ a
     not_less a b is = elim (cases_Bool (nat_lt a b)) [
       | inl l ↦ let no : true ≡ false = rw l at is in absurd (cc no)
-      | inr no ↦ ltb-false a b no
+      | inr fails ↦ ltb-false a b fails
     ]
 
 sorted_later : (c : Change) (cs : List Change) → IsSorted change_cmp (c ∷ cs) → All (NotBefore c) cs
@@ -167,7 +181,10 @@ sorted_later c cs sorted =
     0 (suc k) d (omega arith) (omega (arith, below))
 
 sorted_tail : (c : Change) (cs : List Change) → IsSorted change_cmp (c ∷ cs) → IsSorted change_cmp cs
-sorted_tail c cs sorted = λ k d low high. sorted (suc k) d (omega arith) (omega (arith, high))
+sorted_tail c cs sorted =
+    λ k d low high. let next : suc k + 1 ≡ suc (k + 1) = omega arith in
+    subst (λ n. is_lt (change_cmp (slice_index_or (c ∷ cs) n d) (slice_index_or cs k d)) ≡ false) next
+    (sorted (suc k) d (omega arith) (omega (arith, high)))
 
 begins_same : (p : Prefix) (d : Change) (ds : List Change) → begins_with p (d ∷ ds) ≡ true → d.prefix ≡ p
 begins_same p d ds is =
@@ -190,13 +207,13 @@ all_above : (c : Change) (cs : List Change) → IsSorted change_cmp (c ∷ cs) �
 all_above c [] sorted other = All-nil (λ d. prefix_cmp c.prefix d.prefix ≡ Less)
 all_above c (d ∷ ds) sorted other =
     let first : prefix_cmp c.prefix d.prefix ≡ Less =
-        by_order c d (All-head (NotBefore c) d ds (sorted_later c (d ∷ ds) sorted)) (λ l. l)
-        (λ same le. begins_other c.prefix d ds other (sym same)) in
+    by_order c d (All-head (NotBefore c) d ds (sorted_later c (d ∷ ds) sorted)) (λ l. l)
+    (λ same le. begins_other c.prefix d ds other (sym same)) in
     All-cons (λ e. prefix_cmp c.prefix e.prefix ≡ Less) d ds first (
-      All-weaker (NotBefore d) (λ e. prefix_cmp c.prefix e.prefix ≡ Less)
-      (λ e not. by_order d e not (λ l. prefix_total.trans c.prefix d.prefix e.prefix first l)
-      (λ same le. subst (λ (q : Prefix). prefix_cmp c.prefix q ≡ Less) same first))
-      ds (sorted_later d ds (sorted_tail c (d ∷ ds) sorted))
+    All-weaker (NotBefore d) (λ e. prefix_cmp c.prefix e.prefix ≡ Less)
+    (λ e not. by_order d e not (λ l. prefix_total.trans c.prefix d.prefix e.prefix first l)
+    (λ same le. subst (λ (q : Prefix). prefix_cmp c.prefix q ≡ Less) same first))
+    ds (sorted_later d ds (sorted_tail c (d ∷ ds) sorted))
     )
 
 -- entries with one before them
@@ -233,14 +250,14 @@ module _ (parts : List (Option (List ℕ))) where
       let rest = Each-settled q cs (All-tail (λ d. prefix_cmp q d.prefix ≡ Less) c cs all) in
       elim (cases_Bool (begins_with c.prefix cs)) [
         | inl more ↦ rw more rest
-        | inr no ↦ rw no (Each-with_first q c.prefix (part_at parts c.part) (settled parts cs)
+        | inr ends ↦ rw ends (Each-with_first q c.prefix (part_at parts c.part) (settled parts cs)
             (All-head (λ d. prefix_cmp q d.prefix ≡ Less) c cs all) rest)
       ]
 
   -- the entries that sorted changes leave are above the prefix of the change before them, if it is none of theirs
   above_settled : (c : Change) (cs : List Change) → IsSorted change_cmp (c ∷ cs) → begins_with c.prefix cs ≡ false
       → Each prefix_cmp prefix_total Less c.prefix (settled parts cs)
-  above_settled c cs sorted no = Each-settled c.prefix cs (all_above c cs sorted no)
+  above_settled c cs sorted ends = Each-settled c.prefix cs (all_above c cs sorted ends)
 
   -- sorted changes leave rising prefixes
   pub IsRising-settled : (cs : List Change) → IsSorted change_cmp cs → IsRising prefix_cmp (settled parts cs)
@@ -250,8 +267,8 @@ module _ (parts : List (Option (List ℕ))) where
       let rest = IsRising-settled cs (sorted_tail c cs sorted) in
       elim (cases_Bool (begins_with c.prefix cs)) [
         | inl more ↦ rw more rest
-        | inr no ↦ rw no (IsRising-with_first c.prefix (part_at parts c.part) (settled parts cs)
-            (above_settled c cs sorted no) rest)
+        | inr ends ↦ rw ends (IsRising-with_first c.prefix (part_at parts c.part) (settled parts cs)
+            (above_settled c cs sorted ends) rest)
       ]
 
   -- sorted changes: the last of a prefix has the highest part
@@ -263,39 +280,48 @@ module _ (parts : List (Option (List ℕ))) where
       let later = sorted_later c cs sorted in
       elim (cases_Bool (begins_with c.prefix cs)) [
         | inl more ↦ rw more (elim rest [
-            | inl found ↦ inl (All-cons (λ d. d.prefix ≡ p → ⊥) c cs (begins_not c.prefix p cs more found.0) found.0, found.1)
-            | inr found ↦ inr (found.0, last_later parts c cs p found.0 found.1 (λ here.
-                no_earlier c found.0 (here ∙ sym found.1.here) (All-contains (NotBefore c) cs found.0 later found.1.there)), found.2)
-          ])
-        | inr no ↦ rw no (
+          | inl found ↦ inl (All-cons (λ d. d.prefix ≡ p → ⊥) c cs (begins_not c.prefix p cs more found.0) found.0, found.1)
+          | inr found ↦ inr (
+            found.0,
+            last_later parts c cs p found.0 found.1 (λ here.
+                no_earlier c found.0 (here ∙ sym found.1.here) (All-contains (NotBefore c) cs found.0 later found.1.there)),
+            found.2,
+          )
+        ])
+        | inr ends ↦ rw ends (
             let b : Option (List ℕ) = part_at parts c.part in
             same_prefix p c.prefix
             (λ same. inr (
               c,
-              last_first parts c cs p (sym same) (subst (Untouched cs) (sym same) (none_same c cs sorted no)),
+              last_first parts c cs p (sym same) (subst (Untouched cs) (sym same) (none_same c cs sorted ends)),
               subst (λ (q : Prefix). value_at prefix_cmp (with_first c.prefix b (settled parts cs)) q ≡ b) (sym same)
-                  (value_at-with_first c.prefix b (settled parts cs) (above_settled c cs sorted no)),
+                  (value_at-with_first c.prefix b (settled parts cs) (above_settled c cs sorted ends)),
             ))
             (λ other.
             let skipped = value_at-with_first-other c.prefix p b (settled parts cs) other in
             elim rest [
               | inl found ↦ inl (All-cons (λ d. d.prefix ≡ p → ⊥) c cs (apart_from p c.prefix other) found.0, skipped ∙ found.1)
-              | inr found ↦ inr (found.0, last_later parts c cs p found.0 found.1 (λ here.
-                  absurd (apart_from p c.prefix other here)), skipped ∙ found.2)
+              | inr found ↦ inr (
+                found.0,
+                last_later parts c cs p found.0 found.1 (λ here.
+                    absurd (apart_from p c.prefix other here)),
+                skipped ∙ found.2,
+              )
             ])
-          )
+            )
       ]
     where
       no_earlier : (c d : Change) → c.prefix ≡ d.prefix → NotBefore c d → c.part ≤ d.part
       no_earlier c d same not = by_order c d not
           (λ l. absurd (apart_from c.prefix d.prefix (ap is_eq l) (sym same)))
           (λ too le. le)
+
       none_same : (c : Change) (cs : List Change) → IsSorted change_cmp (c ∷ cs) → begins_with c.prefix cs ≡ false
           → Untouched cs c.prefix
-      none_same c cs sorted no = All-weaker (λ d. prefix_cmp c.prefix d.prefix ≡ Less) (λ d. d.prefix ≡ c.prefix → ⊥)
-          (λ d l. apart_from c.prefix d.prefix (ap is_eq l)) cs (all_above c cs sorted no)
+      none_same c cs sorted ends = All-weaker (λ d. prefix_cmp c.prefix d.prefix ≡ Less) (λ d. d.prefix ≡ c.prefix → ⊥)
+          (λ d l. apart_from c.prefix d.prefix (ap is_eq l)) cs (all_above c cs sorted ends)
 
-nothing_rises : IsRising prefix_cmp []
+nothing_rises : IsRising {X = List ℕ} prefix_cmp []
 unfolding IsStrictlySortedBy
 nothing_rises = tt
 
@@ -309,3 +335,74 @@ settled-sorted parts n xs ys turn moved sorted =
     (value_at prefix_cmp (played parts xs []) p) (settled-leaves parts ys p sorted)
     (Leaves-permutation parts xs ys p None (value_at prefix_cmp (played parts xs []) p) moved
     (played-leaves parts xs [] p nothing_rises turn.in_turn)))
+
+-- sorted changes begin with those of prefixes up to one
+pub IsPartitionedBy-prefix : (p : Prefix) (cs : List Change) → IsSorted change_cmp cs
+    → IsPartitionedBy (λ d. is_le (prefix_cmp d.prefix p)) cs
+IsPartitionedBy-prefix p cs sorted =
+    λ i j d le below is. up_to (slice_index_or cs i d) (slice_index_or cs j d)
+    (sorted_far (λ x y. is_lt (change_cmp x y)) (ranks_by change_total (λ (x : Change). x)) cs sorted i j d le below) is
+  where
+    up_to : (a b : Change) → NotBefore a b → is_le (prefix_cmp b.prefix p) ≡ true
+        → is_le (prefix_cmp a.prefix p) ≡ true
+    up_to a b not is = by_order a b not
+        (λ less. by_ordering (prefix_cmp b.prefix p)
+        (λ l. ap is_le (prefix_total.trans a.prefix b.prefix p less l))
+        (λ e. ap is_le (sym (alike_right prefix_total b.prefix p a.prefix e) ∙ less))
+        (λ g. let no : false ≡ true = rw g at is in absurd (cc no)))
+        (λ same le. subst (λ (q : Prefix). is_le (prefix_cmp q p) ≡ true) (sym same) is)
+
+after_each : (p : Prefix) (es : Sections) → Each prefix_cmp prefix_total Less p es
+    → entries_after prefix_cmp es (Some p) ≡ es
+after_each p [] each = refl
+after_each p (e ∷ es) each = rw each.0 (ap (λ (l : Sections). e ∷ l) (after_each p es each.1))
+
+not_above : (p q : Prefix) → is_le (prefix_cmp q p) ≡ true → is_lt (prefix_cmp p q) ≡ false
+not_above p q is = by_ordering (prefix_cmp p q)
+    (λ l.
+    let more : prefix_cmp q p ≡ Greater = prefix_total.antisymm q p ∙ ap ordering_reverse l in
+    let no : false ≡ true = rw more at is in
+    absurd (cc no))
+    (λ e. ap is_lt e)
+    (λ g. ap is_lt g)
+
+above_from_not : (p q : Prefix) → is_le (prefix_cmp q p) ≡ false → prefix_cmp p q ≡ Less
+above_from_not p q is = by_ordering (prefix_cmp q p)
+    (λ l. let no : true ≡ false = rw l at is in absurd (cc no))
+    (λ e. let no : true ≡ false = rw e at is in absurd (cc no))
+    (λ g. less_from_greater prefix_cmp prefix_total p q g)
+
+module _ (parts : List (Option (List ℕ))) (p : Prefix) where
+  abbrev upto : Bool → Change → Type 0
+  upto b d = is_le (prefix_cmp d.prefix p) ≡ b
+
+  after-with_first : (q : Prefix) (b : Option (List ℕ)) (es : Sections) → is_le (prefix_cmp q p) ≡ true
+      → entries_after prefix_cmp (with_first q b es) (Some p) ≡ entries_after prefix_cmp es (Some p)
+  after-with_first q None es below = refl
+  after-with_first q (Some s) es below = rw (not_above p q below) refl
+
+  -- the changes after those of prefixes up to one leave the entries after it
+  pub entries_after-settled : (cs : List Change) (i : ℕ) → IsPartitionPoint (upto true) (upto false) cs i
+      → settled parts (drop i cs) ≡ entries_after prefix_cmp (settled parts cs) (Some p)
+  entries_after-settled [] i point = ap (settled parts) (drop-nil i)
+  entries_after-settled (c ∷ cs) zero point =
+      let above : All (λ d. prefix_cmp p d.prefix ≡ Less) (c ∷ cs) =
+      λ k d below. above_from_not p (slice_index_or (c ∷ cs) k d).prefix (point.1 k d (omega arith) below) in
+      sym (after_each p (settled parts (c ∷ cs)) (Each-settled parts p (c ∷ cs) above))
+  entries_after-settled (c ∷ cs) (suc i) point =
+      let first : upto true c = point.0 0 c (omega arith) (omega arith) in
+      let rest = entries_after-settled cs i (
+        (λ k d low high. point.0 (suc k) d (omega arith) (omega (arith, high))),
+        (λ k d low high. point.1 (suc k) d (omega (arith, low)) (omega (arith, high))),
+      ) in
+      elim (cases_Bool (begins_with c.prefix cs)) [
+        | inl more ↦ rw more rest
+        | inr ends ↦ rw ends (rest ∙ sym (after-with_first c.prefix (part_at parts c.part) (settled parts cs) first))
+      ]
+
+-- what gives the first entry, or None if there is none, gives the first of the entries
+pub first_of-next : {A B : Type 0} (f : A → B) (entries rest : List B) (next : Option A)
+    → IfSome next (λ e. entries ≡ f e ∷ rest) → IfNone next ((entries ≡ []) × (rest ≡ []))
+    → option_map f next ≡ first_of entries
+first_of-next f entries rest (Some e) here ends = sym (ap first_of here)
+first_of-next f entries rest None here ends = sym (ap first_of ends.0)
