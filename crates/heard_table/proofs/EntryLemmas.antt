@@ -1,4 +1,5 @@
--- Lists of entries by rising key: what a write and a removal leave at other keys, and that a list is known by its values.
+-- Lists of entries by rising key: what a write and a removal leave at other keys, and that lists with the same values
+-- are the same.
 use Rattle.std.proofs.Common.{◌≡◌, false, List, [], ◌∷◌, Option, Some, None, if◌then◌else◌, refl, ◌∙◌, ap, sym}
 use Rattle.std.specs.Cmp.{IsTotalOrder}
 use Rattle.std.specs.Ordering.{is_eq}
@@ -28,7 +29,8 @@ module _ {K X : Type 0} (c : K → K → Ordering) (o : IsTotalOrder c) where
   value_at-with_value-other (e ∷ es) k q v other = by_ordering (c k e.0)
       (λ l. rw (l, other) refl)
       (λ same. rw (same, apart c o q k e.0 other same) refl)
-      (λ g. rw g (ap (λ (x : Option X). if is_eq (c q e.0) then Some e.1 else x) (value_at-with_value-other es k q v other)))
+      (λ g. rw g (ap (λ (x : Option X). if is_eq (c q e.0) then Some e.1 else x)
+      (value_at-with_value-other es k q v other)))
 
   -- a removed key has no value
   pub value_at-without : (es : List (K × X)) (k : K) → IsRising c es → value_at c (without c es k) k ≡ None

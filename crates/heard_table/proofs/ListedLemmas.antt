@@ -1,5 +1,6 @@
 -- Changes as they are listed: a part more changes nothing that was said, and listed prefixes change the table in turn.
-use Rattle.std.proofs.Common.{◌≡◌, ℕ, ◌<◌, Bool, true, false, if◌then◌else◌, List, [], ◌∷◌, ◌++◌, length, Option, Some, None, Result, Ok, Err}
+use Rattle.std.proofs.Common.{◌≡◌, ℕ, ◌<◌, Bool, true, false, if◌then◌else◌, List, [], ◌∷◌, ◌++◌, length, Option, Some}
+use Rattle.std.proofs.Common.{None, Result, Ok, Err}
 use Rattle.std.proofs.Common.{refl, sym, ◌∙◌, ap}
 use Rattle.std.specs.List.{All}
 use Rattle.std.specs.Option.{option_map}
@@ -26,7 +27,8 @@ played-new_part parts becomes (c ∷ cs) table below =
     (All-tail (λ d. d.part < length parts) c cs below)
 
 -- the prefixes of steps change the table as the list that they make
-change_each-listed : (parts : List (Option (List ℕ))) (part : ℕ) (ps : List (Result Prefix (Unit {0}))) (cs : List Change)
+change_each-listed : (parts : List (Option (List ℕ))) (part : ℕ) (ps : List (Result Prefix (Unit {0})))
+    (cs : List Change)
     → change_each ps (part_at parts part) (played parts cs []) ≡ option_map (λ l. played parts l []) (listed part ps cs)
 change_each-listed parts part [] cs = refl
 change_each-listed parts part (Err bad ∷ ps) cs = refl

@@ -66,8 +66,10 @@ module _ (parts : List (Option (List ℕ))) where
   Leaves-one cs p before x y (inr (c, last, is)) (inl (none, too)) =
       absurd (All-contains (λ e. e.prefix ≡ p → ⊥) cs c none last.there last.here)
   Leaves-one cs p before x y (inr (c, last, is)) (inr (d, final, too)) =
-      let up : d.part ≤ c.part = All-contains (λ e. e.prefix ≡ p → e.part ≤ c.part) cs d last.top final.there final.here in
-      let down : c.part ≤ d.part = All-contains (λ e. e.prefix ≡ p → e.part ≤ d.part) cs c final.top last.there last.here in
+      let up : d.part ≤ c.part =
+          All-contains (λ e. e.prefix ≡ p → e.part ≤ c.part) cs d last.top final.there final.here in
+      let down : c.part ≤ d.part =
+          All-contains (λ e. e.prefix ≡ p → e.part ≤ d.part) cs c final.top last.there last.here in
       let same : c.part ≡ d.part = omega (arith, up, down) in
       is ∙ ap (part_at parts) same ∙ sym too
 
@@ -86,7 +88,8 @@ module _ (parts : List (Option (List ℕ))) where
     there = (0, omega arith, refl);
     here = here;
     top = All-cons (λ e. e.prefix ≡ p → e.part ≤ c.part) c cs (λ same. omega arith)
-        (All-weaker (λ e. e.prefix ≡ p → ⊥) (λ e. e.prefix ≡ p → e.part ≤ c.part) (λ e apart same. absurd (apart same)) cs none);
+        (All-weaker (λ e. e.prefix ≡ p → ⊥) (λ e. e.prefix ≡ p → e.part ≤ c.part)
+        (λ e apart same. absurd (apart same)) cs none);
   }
 
 -- whether two prefixes are the same
@@ -125,7 +128,8 @@ module _ (parts : List (Option (List ℕ))) where
       (IsRising-change (part_at parts c.part) t c.prefix rising)
 
   -- changes in turn: the last of a prefix has the highest part
-  played-leaves : (cs : List Change) (t : Sections) (p : Prefix) → IsRising prefix_cmp t → IsNonDecreasingBy (λ c. c.part) cs
+  played-leaves : (cs : List Change) (t : Sections) (p : Prefix) → IsRising prefix_cmp t
+      → IsNonDecreasingBy (λ c. c.part) cs
       → Leaves parts cs p (value_at prefix_cmp t p) (value_at prefix_cmp (played parts cs t) p)
   played-leaves [] t p rising turn = inl (All-nil (λ d. d.prefix ≡ p → ⊥), refl)
   played-leaves (c ∷ cs) t p rising turn =
@@ -139,7 +143,8 @@ module _ (parts : List (Option (List ℕ))) where
               c,
               last_first parts c cs p (sym same) found.0,
               found.1
-                  ∙ subst (λ (q : Prefix). value_at prefix_cmp (change b t c.prefix) q ≡ b) (sym same) (value_at-change b t c.prefix rising),
+                  ∙ subst (λ (q : Prefix). value_at prefix_cmp (change b t c.prefix) q ≡ b) (sym same)
+                  (value_at-change b t c.prefix rising),
             ))
             (λ other. inl (
               All-cons (λ d. d.prefix ≡ p → ⊥) c cs (apart_from p c.prefix other) found.0,
@@ -154,7 +159,8 @@ module _ (parts : List (Option (List ℕ))) where
       ]
 
 change_total : IsTotalOrder change_cmp
-change_total = then_total (on_total (λ (c : Change). c.prefix) prefix_total) (on_total (λ (c : Change). c.part) nat_cmp_total)
+change_total =
+    then_total (on_total (λ (c : Change). c.prefix) prefix_total) (on_total (λ (c : Change). c.part) nat_cmp_total)
 
 -- the second change is not before the first: it is of a greater prefix, or of the same one and of no earlier part
 abbrev NotBefore : Change → Change → Type 0
@@ -280,11 +286,15 @@ module _ (parts : List (Option (List ℕ))) where
       let later = sorted_later c cs sorted in
       elim (cases_Bool (begins_with c.prefix cs)) [
         | inl more ↦ rw more (elim rest [
-          | inl found ↦ inl (All-cons (λ d. d.prefix ≡ p → ⊥) c cs (begins_not c.prefix p cs more found.0) found.0, found.1)
+          | inl found ↦ inl (
+              All-cons (λ d. d.prefix ≡ p → ⊥) c cs (begins_not c.prefix p cs more found.0) found.0,
+              found.1,
+            )
           | inr found ↦ inr (
             found.0,
             last_later parts c cs p found.0 found.1 (λ here.
-                no_earlier c found.0 (here ∙ sym found.1.here) (All-contains (NotBefore c) cs found.0 later found.1.there)),
+                no_earlier c found.0 (here ∙ sym found.1.here)
+                (All-contains (NotBefore c) cs found.0 later found.1.there)),
             found.2,
           )
         ])
@@ -300,7 +310,10 @@ module _ (parts : List (Option (List ℕ))) where
             (λ other.
             let skipped = value_at-with_first-other c.prefix p b (settled parts cs) other in
             elim rest [
-              | inl found ↦ inl (All-cons (λ d. d.prefix ≡ p → ⊥) c cs (apart_from p c.prefix other) found.0, skipped ∙ found.1)
+              | inl found ↦ inl (
+                  All-cons (λ d. d.prefix ≡ p → ⊥) c cs (apart_from p c.prefix other) found.0,
+                  skipped ∙ found.1,
+                )
               | inr found ↦ inr (
                 found.0,
                 last_later parts c cs p found.0 found.1 (λ here.

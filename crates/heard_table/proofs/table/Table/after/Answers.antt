@@ -4,7 +4,8 @@ use Rattle.std.proofs.lemmas.List.Sorted.{IsPartitionPoint-from_clause}
 use Rattle.xb_words.specs.Table.{IsRising, entries_after, first_of}
 use Rattle.xb_values.specs.Prefixes.{Sections, prefix_cmp}
 use Rattle.heard_table.specs.Changes.{settled}
-use Rattle.heard_table.proofs.SettledLemmas.{IsPartitionedBy-prefix, IsRising-settled, entries_after-settled, first_of-next}
+use Rattle.heard_table.proofs.SettledLemmas.{IsPartitionedBy-prefix, IsRising-settled, entries_after-settled}
+use Rattle.heard_table.proofs.SettledLemmas.{first_of-next}
 use Rattle.heard_table.proofs.table.Table.after.Goals.{in-None, in-Some}
 use Rattle.heard_table.proofs.table.Table.after.Goals as goal
 
@@ -28,4 +29,5 @@ returns-clause-entry c =
           )
     ] in
     first_of-next (λ e. (e.0, e.1.now)) _ _ c.next.result c.next.ensures.entry c.next.ensures.end
-    ∙ ap first_of (rw (c.split_at.ensures.back, c.as_slice-2.ensures.value, c.as_slice.ensures.value, ← c.self.view_is) left)
+    ∙ ap first_of
+    (rw (c.split_at.ensures.back, c.as_slice-2.ensures.value, c.as_slice.ensures.value, ← c.self.view_is) left)
