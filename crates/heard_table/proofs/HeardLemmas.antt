@@ -94,7 +94,7 @@ after_messages-walk at [] (b ∷ rest) table =
     ap Err here ∙ ap (λ k. if k then Ok table else Err (at + 0)) (sym (some_left b rest))
 after_messages-walk at (m ∷ items) rest table =
     let end : at + length m + length (concat items) ≡ at + length (m ++ concat items) =
-        omega (arith, length-append m (concat items)) in
+    omega (arith, length-append m (concat items)) in
     let others = walk found_message (λ i. i) (at + length m) items rest in
     ap (λ o. or_refused at (option_map (after_messages others) o)) (message_step-if_whole at m table)
     ∙ elim (is_refused m) as (λ b.

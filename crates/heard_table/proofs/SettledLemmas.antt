@@ -67,9 +67,9 @@ module _ (parts : List (Option (List ℕ))) where
       absurd (All-contains (λ e. e.prefix ≡ p → ⊥) cs c none last.there last.here)
   Leaves-one cs p before x y (inr (c, last, is)) (inr (d, final, too)) =
       let up : d.part ≤ c.part =
-          All-contains (λ e. e.prefix ≡ p → e.part ≤ c.part) cs d last.top final.there final.here in
+      All-contains (λ e. e.prefix ≡ p → e.part ≤ c.part) cs d last.top final.there final.here in
       let down : c.part ≤ d.part =
-          All-contains (λ e. e.prefix ≡ p → e.part ≤ d.part) cs c final.top last.there last.here in
+      All-contains (λ e. e.prefix ≡ p → e.part ≤ d.part) cs c final.top last.there last.here in
       let same : c.part ≡ d.part = omega (arith, up, down) in
       is ∙ ap (part_at parts) same ∙ sym too
 
@@ -287,9 +287,9 @@ module _ (parts : List (Option (List ℕ))) where
       elim (cases_Bool (begins_with c.prefix cs)) [
         | inl more ↦ rw more (elim rest [
           | inl found ↦ inl (
-              All-cons (λ d. d.prefix ≡ p → ⊥) c cs (begins_not c.prefix p cs more found.0) found.0,
-              found.1,
-            )
+            All-cons (λ d. d.prefix ≡ p → ⊥) c cs (begins_not c.prefix p cs more found.0) found.0,
+            found.1,
+          )
           | inr found ↦ inr (
             found.0,
             last_later parts c cs p found.0 found.1 (λ here.
@@ -311,9 +311,9 @@ module _ (parts : List (Option (List ℕ))) where
             let skipped = value_at-with_first-other c.prefix p b (settled parts cs) other in
             elim rest [
               | inl found ↦ inl (
-                  All-cons (λ d. d.prefix ≡ p → ⊥) c cs (apart_from p c.prefix other) found.0,
-                  skipped ∙ found.1,
-                )
+                All-cons (λ d. d.prefix ≡ p → ⊥) c cs (apart_from p c.prefix other) found.0,
+                skipped ∙ found.1,
+              )
               | inr found ↦ inr (
                 found.0,
                 last_later parts c cs p found.0 found.1 (λ here.
