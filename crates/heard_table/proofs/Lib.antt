@@ -1,1 +1,4 @@
 pub mod HeardLemmas
+pub mod EntryLemmas
+pub mod ListedLemmas
+pub mod SettledLemmas

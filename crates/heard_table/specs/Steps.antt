@@ -8,22 +8,22 @@ use Rattle.xb_wire.specs.Messages.{Update, update_of}
 use Rattle.xb_wire.specs.declared.numbers.TheConstants.{UPDATE}
 use Rattle.bgp_update.specs.Walks.{FoundMessage, prefixes_from}
 
--- without the prefixes of these steps
-abbrev pub withdraw : List (Result Prefix (Unit {0})) → Sections → Option Sections
-withdraw [] table = Some table
-withdraw (Err bad ∷ ps) table = None
-withdraw (Ok p ∷ ps) table = withdraw ps (without prefix_cmp table p)
+-- the table with a prefix announced with that section, or without it for None
+abbrev pub change : Option (List ℕ) → Sections → Prefix → Sections
+change None table p = without prefix_cmp table p
+change (Some section) table p = with_value prefix_cmp table p section
 
--- with a section at the prefixes of these steps
-abbrev pub announce : List (Result Prefix (Unit {0})) → List ℕ → Sections → Option Sections
-announce [] section table = Some table
-announce (Err bad ∷ ps) section table = None
-announce (Ok p ∷ ps) section table = announce ps section (with_value prefix_cmp table p section)
+-- the table with the prefixes of these steps so changed
+abbrev pub change_each : List (Result Prefix (Unit {0})) → Option (List ℕ) → Sections → Option Sections
+change_each [] becomes table = Some table
+change_each (Err bad ∷ ps) becomes table = None
+change_each (Ok p ∷ ps) becomes table = change_each ps becomes (change becomes table p)
 
 -- withdrawn prefixes leave, then announced ones enter
 abbrev pub parts_step : Update → Sections → Option Sections
 parts_step u table =
-    option_and_then (announce (prefixes_from u.nlri) u.section) (withdraw (prefixes_from u.withdrawn) table)
+    option_and_then (change_each (prefixes_from u.nlri) (Some u.section))
+    (change_each (prefixes_from u.withdrawn) None table)
 
 -- after an UPDATE with that body
 unfoldable pub update_step : List ℕ → Sections → Option Sections

@@ -4,17 +4,16 @@ ghost use Rattle.std.specs.Option.{option_map};
 ghost use Rattle.xb_words.specs.Table.{entry_after, IsRising};
 ghost use Rattle.xb_values.specs.Prefixes.{prefix_cmp};
 ghost use Rattle.bgp_update.specs.Heard.{heard as heard_of};
-ghost use Rattle.bgp_update.specs.Walks.{prefixes_from};
+ghost use Rattle.heard_table.specs.Changes.{begins_with};
 ghost use Rattle.heard_table.specs.Gives.{GivesTable};
-ghost use Rattle.heard_table.specs.Steps.{announce as announced, update_step, withdraw as withdrawn};
+ghost use Rattle.heard_table.specs.Steps.{update_step};
 
+use crate::change::Change;
+use crate::changes::Changes;
 use crate::section::Section;
-use bgp_update::{Messages, Prefixes, UpdateView};
+use bgp_update::{Messages, UpdateView};
 use std::alloc::{AllocError, Global};
-use std::collections::BTreeMap;
-use std::collections::btree_map::Iter;
 use std::marker::Model;
-use std::ops::Bound;
 use thiserror::Error;
 use xb_values::Prefix;
 use xb_wire::numbers::UPDATE;
@@ -29,45 +28,63 @@ pub enum HeardError {
     Bad { at: usize },
 }
 
-type Sections<'a> = BTreeMap<Prefix, Section<'a>>;
-
-/// Prefixes, each with the section of path attributes that announced it last. It takes memory for each prefix, so no
-/// more than in proportion to the stream, whose octets it borrows.
+/// Prefixes, each with the section of path attributes that announced it last. It takes memory for each prefix of the
+/// stream, so no more than in proportion to the stream, whose octets it borrows.
 #[derive(Drop)]
 pub struct Table<'a> {
-    sections: Sections<'a>,
+    parts: Vec<Option<Section<'a>>>,
+    changes: Vec<Change>,
 }
 
 impl<'a> Model for Table<'a> {
+    ghost use Rattle.std.specs.List.Sorted.{IsSorted};
     ghost use Rattle.xb_values.specs.Prefixes.{Sections};
+    ghost use Rattle.heard_table.specs.Changes.{settled, change_cmp};
 
     ghost Value = { Sections };
 
-    ghost view = { λ t. t.sections.entries };
+    ghost view = { λ t. settled t.parts.items t.changes.items };
+
+    ghost invariant = { λ t. IsSorted change_cmp t.changes.items };
 }
 
 /// The entries of a table by rising prefix. Contracts see those that are still to come.
 #[derive(Drop)]
 pub struct Entries<'t, 'a> {
-    rest: Iter<'t, Prefix, Section<'a>>,
+    parts: &'t [Option<Section<'a>>],
+    rest: &'t [Change],
 }
 
 impl<'t, 'a> Model for Entries<'t, 'a> {
     ghost use Rattle.xb_values.specs.Prefixes.{Sections};
+    ghost use Rattle.heard_table.specs.Changes.{settled};
 
     ghost Value = { Sections };
 
-    ghost view = { λ e. e.rest };
+    ghost view = { λ e. settled e.parts.now e.rest.now };
 }
 
 impl<'a> Table<'a> {
+    // The table that changes leave.
+    fn settle(changes: Changes<'a>) -> Table<'a>
+        ensures { result ≡ changes.entry }
+    {
+        let Changes { parts, mut list } = changes;
+        list.sort_unstable();
+        Table {
+            parts,
+            changes: list,
+        }
+    }
+
     /// All entries, in order.
     pub fn entries(&self) -> Entries<'_, 'a>
         ensures all { result ≡ self.now }
         ensures rising { IsRising prefix_cmp self.now }
     {
         Entries {
-            rest: self.sections.iter(),
+            parts: self.parts.as_slice(),
+            rest: self.changes.as_slice(),
         }
     }
 
@@ -77,34 +94,26 @@ impl<'a> Table<'a> {
         ensures entry { option_map (λ e. (e.0, e.1.now)) result ≡ entry_after prefix_cmp self.now after }
         ensures rising { IsRising prefix_cmp self.now }
     {
-        let (prefix, section) = match after {
-            None => first_of(&self.sections)?,
-            Some(prefix) => first_after(&self.sections, prefix)?,
+        let first = match after {
+            None => 0,
+            Some(prefix) => self.changes.partition_point(|c| c.prefix <= prefix),
         };
-        Some((*prefix, section.as_slice()))
+        let mut entries = Entries {
+            parts: self.parts.as_slice(),
+            rest: self.changes.as_slice().split_at(first).1,
+        };
+        entries.next()
     }
 }
 
-// The first entry.
-fn first_of<'t, 'a>(sections: &'t Sections<'a>) -> Option<(&'t Prefix, &'t Section<'a>)>
-    ensures entry { option_map (λ e. (e.0.now, e.1.now)) result ≡ entry_after prefix_cmp sections.now.entries None }
-    ensures rising { IsRising prefix_cmp sections.now.entries }
+// Whether the first of these changes is one of that prefix.
+fn begins_with(prefix: Prefix, changes: &[Change]) -> bool
+    ensures { result ≡ begins_with prefix changes.now }
 {
-    sections.iter().next()
-}
-
-// The first entry after a prefix.
-fn first_after<'t, 'a>(
-    sections: &'t Sections<'a>,
-    prefix: Prefix,
-) -> Option<(&'t Prefix, &'t Section<'a>)>
-    ensures entry { option_map (λ e. (e.0.now, e.1.now)) result
-        ≡ entry_after prefix_cmp sections.now.entries (Some prefix) }
-    ensures rising { IsRising prefix_cmp sections.now.entries }
-{
-    sections
-        .range((Bound::Excluded(prefix), Bound::Unbounded))
-        .next()
+    match changes {
+        [first, ..] => first.prefix == prefix,
+        [] => false,
+    }
 }
 
 impl<'t, 'a> Entries<'t, 'a> {
@@ -113,60 +122,32 @@ impl<'t, 'a> Entries<'t, 'a> {
         ensures entry { IfSome result (λ e. self.old ≡ (e.0, e.1.now) ∷ self.new) }
         ensures end { IfNone result ((self.old ≡ []) × (self.new ≡ [])) }
     {
-        let (prefix, section) = self.rest.next()?;
-        Some((*prefix, section.as_slice()))
+        'changes: while let [change, rest @ ..] = self.rest {
+            self.rest = rest;
+            if begins_with(change.prefix, rest) {
+                continue;
+            }
+            if let Some(Some(section)) = self.parts.get(change.part) {
+                return Some((change.prefix, section.as_slice()));
+            }
+        }
+        None
     }
-}
-
-// Removes the prefixes that octets write. False if the octets are not prefixes to the end.
-fn withdraw(sections: &mut Sections<'_>, octets: &[u8]) -> bool
-    ensures { withdrawn (prefixes_from octets.now) sections.old.entries
-        ≡ (if result then Some sections.new.entries else None) }
-{
-    let mut prefixes = Prefixes::new(octets);
-    'prefixes: while let Some(next) = prefixes.next() {
-        let Ok(prefix) = next else {
-            return false;
-        };
-        let _ = sections.remove(&prefix);
-    }
-    true
-}
-
-// Enters the section at the prefixes that octets write. False if the octets are not prefixes to the end.
-fn announce<'a>(
-    sections: &mut Sections<'a>,
-    octets: &[u8],
-    section: &'a [u8],
-) -> Result<bool, AllocError>
-    ensures { IfOk result
-        (λ whole. announced (prefixes_from octets.now) section.now sections.old.entries
-        ≡ (if whole then Some sections.new.entries else None)) }
-{
-    let mut prefixes = Prefixes::new(octets);
-    'prefixes: while let Some(next) = prefixes.next() {
-        let Ok(prefix) = next else {
-            return Ok(false);
-        };
-        let _ = sections.insert(prefix, Section::new(section))?;
-    }
-    Ok(true)
 }
 
 // Applies an UPDATE. False if it cannot be read.
 #[tactic(auto, unfolding(crate::specs::Steps::update_step))]
-fn update<'a>(sections: &mut Sections<'a>, body: &'a [u8]) -> Result<bool, AllocError>
+fn update<'a>(changes: &mut Changes<'a>, body: &'a [u8]) -> Result<bool, AllocError>
     ensures { IfOk result
-        (λ whole. update_step body.now sections.old.entries
-        ≡ (if whole then Some sections.new.entries else None)) }
+        (λ whole. update_step body.now changes.old ≡ (if whole then Some changes.new else None)) }
 {
     let Some(update) = UpdateView::new(body) else {
         return Ok(false);
     };
-    if !withdraw(sections, update.withdrawn()) {
+    if !changes.add(update.withdrawn(), None)? {
         return Ok(false);
     }
-    announce(sections, update.nlri(), update.section())
+    changes.add(update.nlri(), Some(Section::new(update.section())))
 }
 
 /// The table of a stream of whole messages. Messages other than UPDATE change nothing, and path attributes are not
@@ -175,7 +156,7 @@ fn update<'a>(sections: &mut Sections<'a>, body: &'a [u8]) -> Result<bool, Alloc
 pub fn heard<'a>(alloc: Global, bytes: &'a [u8]) -> Result<Table<'a>, HeardError>
     ensures { GivesTable result (heard_of bytes.now) }
 {
-    let mut sections = BTreeMap::new(alloc);
+    let mut changes = Changes::new(alloc);
     let mut messages = Messages::new(bytes);
     'messages: while let Some(next) = messages.next() {
         let message = match next {
@@ -183,12 +164,12 @@ pub fn heard<'a>(alloc: Global, bytes: &'a [u8]) -> Result<Table<'a>, HeardError
             Err(at) => return Err(HeardError::Bad { at }),
         };
         if message.kind == UPDATE {
-            match update(&mut sections, message.body) {
+            match update(&mut changes, message.body) {
                 Ok(true) => {}
                 Ok(false) => return Err(HeardError::Bad { at: message.at }),
                 Err(AllocError) => return Err(HeardError::OutOfMemory),
             }
         }
     }
-    Ok(Table { sections })
+    Ok(Table::settle(changes))
 }
