@@ -1,14 +1,15 @@
 -- What a look-up, a write, a removal and a walk do in two lists of entries, one after the other, for a key that is past
 -- the first or before the second.
-use Rattle.std.proofs.Common.{◌≡◌, Bool, true, false, cond, List, [], ◌∷◌, ◌++◌, Option, Some, None, refl, ◌∙◌, ap}
+use Rattle.std.proofs.Common.{◌≡◌, cond, List, [], ◌∷◌, ◌++◌, Option, Some, None, refl, sym, ◌∙◌, ap}
 use Rattle.std.specs.Cmp.{IsTotalOrder}
 use Rattle.std.specs.List.{AllByRecursion}
-use Rattle.std.specs.Map.{keys_of}
 use Rattle.std.specs.Option.{option_or}
-use Rattle.std.specs.Ordering.{is_lt, is_eq, match_ordering}
+use Rattle.std.specs.Ordering.{is_eq}
 use Rattle.std.specs.declared.cmp.Ordering.{Ordering}
 use Rattle.std.specs.declared.cmp.Ordering.TheVariants.{Less, Equal, Greater}
-use Rattle.xb_words.specs.Table.{value_at, with_value, without, entries_after, entry_after, first_of, IsRising}
+use Rattle.std.proofs.lemmas.List.{append-nil}
+use Rattle.xb_words.specs.Table.{value_at, with_value, without, entry_after, first_of, IsRising}
+use Rattle.xb_words.proofs.TableSplitLemmas.{or_entry, with_value-less, without-less, entry_after-less}
 use Rattle.xb_words.proofs.TableSplitLemmas.{Each, IsRising-head, IsRising-tail, IsRising-cons, value_at-above}
 
 module _ {A : Type 0} (P : A → Type 0) where
@@ -21,6 +22,14 @@ module _ {A : Type 0} (P : A → Type 0) where
 pub first_of-append : {A : Type 0} (xs ys : List A) → first_of (xs ++ ys) ≡ option_or (first_of xs) (first_of ys)
 first_of-append [] ys = refl
 first_of-append (x ∷ xs) ys = refl
+
+option_or-none : {A : Type 0} (x : Option A) → option_or x None ≡ x
+option_or-none None = refl
+option_or-none (Some a) = refl
+
+or_entry-is : {A : Type 0} (x : Option A) (a : A) → or_entry x a ≡ option_or x (Some a)
+or_entry-is None a = refl
+or_entry-is (Some b) a = refl
 
 module _ {K X : Type 0} (c : K → K → Ordering) (o : IsTotalOrder c) where
   -- past the first list
@@ -48,49 +57,23 @@ module _ {K X : Type 0} (c : K → K → Ordering) (o : IsTotalOrder c) where
   value_at-before q (l ∷ ls) es a =
       ap (λ (t : Option X). cond (is_eq (c q l.0)) (Some l.1) t) (value_at-before q ls es a)
 
-  with_first : (q : K) (v : X) (es : List (K × X)) → Each c o Less q es → with_value c es q v ≡ (q, v) ∷ es
-  with_first q v [] a = refl
-  with_first q v (e ∷ es) a = rw a.0 refl
-
   pub with_value-before : (q : K) (v : X) (ls es : List (K × X)) → Each c o Less q es
       → with_value c (ls ++ es) q v ≡ with_value c ls q v ++ es
-  with_value-before q v [] es a = with_first q v es a
-  with_value-before q v (l ∷ ls) es a = by (c q l.0) (with_value-before q v ls es a)
-    where
-      by : (r : Ordering) → with_value c (ls ++ es) q v ≡ with_value c ls q v ++ es
-          → match_ordering r ((q, v) ∷ l ∷ (ls ++ es)) ((l.0, v) ∷ (ls ++ es)) (l ∷ with_value c (ls ++ es) q v)
-          ≡ match_ordering r ((q, v) ∷ l ∷ ls) ((l.0, v) ∷ ls) (l ∷ with_value c ls q v) ++ es
-      by Less h = refl
-      by Equal h = refl
-      by Greater h = ap (λ (t : List (K × X)). l ∷ t) h
+  with_value-before q v ls [] a =
+      ap (λ (t : List (K × X)). with_value c t q v) (append-nil ls) ∙ sym (append-nil (with_value c ls q v))
+  with_value-before q v ls (e ∷ es) a = with_value-less c o q v ls e es a.0
 
-  without_none : (q : K) (es : List (K × X)) → Each c o Less q es → without c es q ≡ es
-  without_none q [] a = refl
-  without_none q (e ∷ es) a = rw a.0 (ap (λ (t : List (K × X)). e ∷ t) (without_none q es a.1))
-
-  pub without-before : (q : K) (ls es : List (K × X)) → Each c o Less q es → without c (ls ++ es) q ≡ without c ls q ++ es
-  without-before q [] es a = without_none q es a
-  without-before q (l ∷ ls) es a = by (is_eq (c q l.0)) (without-before q ls es a)
-    where
-      by : (b : Bool) → without c (ls ++ es) q ≡ without c ls q ++ es
-          → cond b (ls ++ es) (l ∷ without c (ls ++ es) q) ≡ cond b ls (l ∷ without c ls q) ++ es
-      by true h = refl
-      by false h = ap (λ (t : List (K × X)). l ∷ t) h
-
-  first_after_all : (q : K) (es : List (K × X)) → Each c o Less q es → entry_after c es (Some q) ≡ first_of es
-  first_after_all q [] a = refl
-  first_after_all q (e ∷ es) a = rw a.0 refl
+  pub without-before : (q : K) (ls es : List (K × X)) → Each c o Less q es → IsRising c (ls ++ es)
+      → without c (ls ++ es) q ≡ without c ls q ++ es
+  without-before q ls [] a rising =
+      ap (λ (t : List (K × X)). without c t q) (append-nil ls) ∙ sym (append-nil (without c ls q))
+  without-before q ls (e ∷ es) a rising = without-less c o q ls e es a.0 rising
 
   pub entry_after-before : (q : K) (ls es : List (K × X)) → Each c o Less q es
       → entry_after c (ls ++ es) (Some q) ≡ option_or (entry_after c ls (Some q)) (first_of es)
-  entry_after-before q [] es a = first_after_all q es a
-  entry_after-before q (l ∷ ls) es a = by (is_lt (c q l.0)) (entry_after-before q ls es a)
-    where
-      by : (b : Bool) → entry_after c (ls ++ es) (Some q) ≡ option_or (entry_after c ls (Some q)) (first_of es)
-          → first_of (cond b (l ∷ entries_after c (ls ++ es) (Some q)) (entries_after c (ls ++ es) (Some q)))
-          ≡ option_or (first_of (cond b (l ∷ entries_after c ls (Some q)) (entries_after c ls (Some q)))) (first_of es)
-      by true h = refl
-      by false h = h
+  entry_after-before q ls [] a =
+      ap (λ (t : List (K × X)). entry_after c t (Some q)) (append-nil ls) ∙ sym (option_or-none (entry_after c ls (Some q)))
+  entry_after-before q ls (e ∷ es) a = entry_after-less c o q ls e es a.0 ∙ or_entry-is (entry_after c ls (Some q)) e
 
   -- two lists whose keys rise, each of the first below all of the second
   pub IsRising-append : (ls es : List (K × X)) → IsRising c ls → IsRising c es

@@ -124,12 +124,13 @@ module _ {V : Type 0} where
         append.with_value-past prefix_cmp prefix_total k v (entries_of low) (entries_of high)
         (each_before k first (bits - 1) (entries_of low) upper (all_in _ _ low tree))
 
-    pub without-low : IsTree (first + 2 ^ (bits - 1)) (bits - 1) high → k.addr < first + 2 ^ (bits - 1)
+    pub without-low : IsRising prefix_cmp (entries_of low ++ entries_of high)
+        → IsTree (first + 2 ^ (bits - 1)) (bits - 1) high → k.addr < first + 2 ^ (bits - 1)
         → without prefix_cmp (entries_of low ++ entries_of high) k
         ≡ without prefix_cmp (entries_of low) k ++ entries_of high
-    without-low tree lower =
+    without-low rising tree lower =
         append.without-before prefix_cmp prefix_total k (entries_of low) (entries_of high)
-        (each_after k (first + 2 ^ (bits - 1)) (bits - 1) (entries_of high) lower (all_in _ _ high tree))
+        (each_after k (first + 2 ^ (bits - 1)) (bits - 1) (entries_of high) lower (all_in _ _ high tree)) rising
 
     pub without-high : IsTree first (bits - 1) low → first + 2 ^ (bits - 1) ≤ k.addr
         → without prefix_cmp (entries_of low ++ entries_of high) k
@@ -244,7 +245,5 @@ pub ruleset look_up = (find_at, nodes_some)
 pub ruleset leaf = (leaf-low, leaf-high)
 
 pub ruleset write = (find_at, with_value-low, with_value-high, IsIn-low, IsIn-high)
-
-pub ruleset removal = (find_at, without-low, without-high)
 
 pub ruleset walk = (first_of_halves, entry_after-low, entry_after-high)

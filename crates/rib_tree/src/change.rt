@@ -212,7 +212,7 @@ fn take_out_of_leaf<V>(mut page: Page<V>, block: Block, key: Prefix) -> (Subtree
 }
 
 /// The tree without a prefix, and the value that was there.
-#[tactic(auto, using(crate::proofs::TreesLemmas::removal))]
+#[tactic(auto, using(crate::proofs::TreesLemmas::find_at))]
 pub(crate) fn removed<V: Drop>(
     alloc: Global,
     tree: Subtree<V>,

@@ -4,7 +4,7 @@ use Rattle.xb_words.specs.Table.{without}
 use Rattle.xb_values.specs.Prefixes.{prefix_cmp}
 use Rattle.rib_tree.specs.declared.node.Node.TheVariants.{Fork}
 use Rattle.rib_tree.specs.Trees.{entries_of, IsTree}
-use Rattle.rib_tree.proofs.TreesLemmas.{without-low, without-high}
+use Rattle.rib_tree.proofs.TreesLemmas.{tree_rises, without-low, without-high}
 use Rattle.rib_tree.proofs.change.+removed.Goals as goal
 
 pub returns-then-addr-middle-clause-entries : goal.returns-then-addr-middle-clause-entries
@@ -17,8 +17,9 @@ returns-then-addr-middle-clause-entries g t c =
     let parts : entries_of c.joined.result.node
     ≡ without prefix_cmp (entries_of halves.low.node) c.args.key ++ entries_of halves.high.node =
     grind (arith, common_steps) in
+    let rising = tree_rises b.first b.bits (Fork c.in-Fork.halves) tree in
     rw is
-    (parts ∙ sym (without-low b.first b.bits halves.low.node halves.high.node c.args.key tree.2 lower))
+    (parts ∙ sym (without-low b.first b.bits halves.low.node halves.high.node c.args.key rising tree.2 lower))
 
 pub returns-else-addr-middle-clause-entries : goal.returns-else-addr-middle-clause-entries
 returns-else-addr-middle-clause-entries g t c =
