@@ -49,6 +49,7 @@ impl<V> Tree<V> {
         ensures value { option_map (λ v. v.now) result ≡ value_at prefix_cmp self.now prefix }
         ensures least { steps.old < steps.new }
         ensures most { steps.new ≤ steps.old + 33 }
+        ensures rising { IsRising prefix_cmp self.now }
     {
         find(&self.root, Block::whole(), prefix, steps)
     }
@@ -74,6 +75,7 @@ impl<V: Drop> Tree<V> {
         ensures err { OnErr result (self.new ≡ self.old) }
         ensures back { IfErr result (λ v. v ≡ value) }
         ensures absent { OnErr result (value_at prefix_cmp self.old prefix ≡ None) }
+        ensures rising { IsRising prefix_cmp self.new }
     {
         let root = self.root.take(self.alloc);
         let (root, result) = inserted(self.alloc, root, Block::around(prefix), prefix, value);
@@ -85,6 +87,7 @@ impl<V: Drop> Tree<V> {
     pub fn remove(&mut self, prefix: Prefix) -> Option<V>
         ensures value { result ≡ value_at prefix_cmp self.old prefix }
         ensures after { self.new ≡ without prefix_cmp self.old prefix }
+        ensures rising { IsRising prefix_cmp self.new }
     {
         let root = self.root.take(self.alloc);
         let (root, value) = removed(self.alloc, root, Block::whole(), prefix);
