@@ -6,7 +6,7 @@ use Rattle.std.specs.List.{AllByRecursion}
 use Rattle.std.specs.Option.{option_or}
 use Rattle.std.specs.Ordering.{is_eq}
 use Rattle.std.specs.declared.cmp.Ordering.{Ordering}
-use Rattle.std.specs.declared.cmp.Ordering.TheVariants.{Less, Equal, Greater}
+use Rattle.std.specs.declared.cmp.Ordering.TheVariants.{Less, Greater}
 use Rattle.std.proofs.lemmas.List.{append-nil}
 use Rattle.xb_words.specs.Table.{value_at, with_value, without, entry_after, first_of, IsRising}
 use Rattle.xb_words.proofs.TableSplitLemmas.{or_entry, with_value-less, without-less, entry_after-less}

@@ -1,20 +1,19 @@
 -- What a look-up, a write, a removal and a cut of a list of entries by rising key are by the index at which the key is,
 -- or would be.
-use Rattle.std.proofs.Common.{◌≡◌, ◌<◌, ◌≤◌, Bool, true, false, inl, inr, zero, suc, List, [], ◌∷◌, ◌++◌, length, take, drop}
+use Rattle.std.proofs.Common.{◌≡◌, ◌<◌, ◌≤◌, true, false, inl, inr, zero, suc, List, [], ◌∷◌, ◌++◌, length, take, drop}
 use Rattle.std.proofs.Common.{Option, Some, None, ℕ, refl, sym, ◌∙◌, ap, arith}
 use Rattle.std.proofs.Math.Numerals.{one-add}
 use Rattle.std.specs.Prelude.{slice_get, slice_set, find, is_some, nat_lt, remove}
 use Rattle.std.specs.List.{insert as list_insert}
 use Rattle.std.specs.Option.{option_map}
 use Rattle.std.specs.Cmp.{IsTotalOrder}
-use Rattle.std.specs.List.{AllByRecursion}
-use Rattle.std.specs.Ordering.{is_gt, is_lt, is_eq, ordering_reverse}
+use Rattle.std.specs.Ordering.{is_gt, is_eq, ordering_reverse}
 use Rattle.std.specs.declared.cmp.Ordering.{Ordering}
 use Rattle.std.specs.declared.cmp.Ordering.TheVariants.{Less, Equal, Greater}
 use Rattle.std.proofs.lemmas.Bool.{cases_Bool, ltb-true, ltb-false}
-use Rattle.xb_words.specs.Table.{value_at, with_value, without, entry_after, first_of, IsRising}
+use Rattle.xb_words.specs.Table.{value_at, with_value, without, entry_after, IsRising}
 use Rattle.xb_words.proofs.TableLemmas.{without-absent}
-use Rattle.xb_words.proofs.TableSplitLemmas.{Each, Each-trans, IsRising-head, IsRising-tail, IsRising-cons, value_at-above}
+use Rattle.xb_words.proofs.TableSplitLemmas.{Each, Each-trans, IsRising-head, IsRising-tail, value_at-above}
 use Rattle.xb_values.specs.Prefixes.{Prefix, prefix_cmp}
 use Rattle.xb_values.proofs.PrefixLemmas.{prefix_total, prefix_exact}
 use Rattle.rib_tree.proofs.AddressLemmas.{by_ordering, addresses_rise}

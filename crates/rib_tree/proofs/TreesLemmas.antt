@@ -1,14 +1,14 @@
 -- What the calls on the tree of a block of addresses are on the trees of its halves.
-use Rattle.std.proofs.Common.{◌≡◌, ◌<◌, ◌≤◌, ◌+◌, ◌-◌, ◌^◌, ℕ, inl, inr, zero, suc, List, [], ◌∷◌, ◌++◌, Option, Some, None, true}
+use Rattle.std.proofs.Common.{◌≡◌, ◌<◌, ◌≤◌, ◌+◌, ◌-◌, ◌^◌, ℕ, inl, inr, zero, suc, List, [], ◌∷◌, ◌++◌, Some, true}
 use Rattle.std.specs.Prelude.{Result, Ok, Err, OnOk, OnErr, nat_lt}
 use Rattle.std.proofs.lemmas.Bool.{cases_Bool}
 use Rattle.xb_words.proofs.ListLemmas.{AllByRecursion-left, AllByRecursion-right}
 use Rattle.std.specs.List.Sorted.{IsStrictlySortedBy}
-use Rattle.std.proofs.Common.{refl, sym, ◌∙◌, ap, arith}
+use Rattle.std.proofs.Common.{arith}
 use Rattle.std.proofs.Math.Nat.{two-pow-succ}
 use Rattle.std.specs.List.{AllByRecursion}
 use Rattle.std.specs.Option.{option_or}
-use Rattle.std.specs.declared.cmp.Ordering.TheVariants.{Less, Equal, Greater}
+use Rattle.std.specs.declared.cmp.Ordering.TheVariants.{Less, Greater}
 use Rattle.xb_words.specs.Table.{value_at, with_value, without, entry_after, first_of, IsRising}
 use Rattle.xb_words.proofs.TableSplitLemmas.{Each}
 use Rattle.xb_words.proofs.TableLemmas.{AllByRecursion-with_value, AllByRecursion-without, IsRising-with_value, IsRising-without}

@@ -6,9 +6,10 @@
 //! tree from left to right are by rising address, then by rising length, and a path has at most one node for each bit of
 //! an address, and the leaf. Nodes don't keep their blocks, which are known on the way down.
 //!
-//! A page of 256 entries is cut at the middle of its block before another one goes in, and a fork of one leaf alone
-//! becomes that leaf, so that a removal leaves no nodes without entries. Leaves are as large as this since a step down
-//! to another node takes longer than to go over dozens of entries that are one after another in memory.
+//! A page of 64 entries is cut at the middle of its block before another one goes in, unless the block has one address
+//! alone: then the page has its at most 33 prefixes. A fork of two leaves, of which one has no entries, becomes the
+//! other, so that a removal leaves no such forks on its path. Leaves are pages since a step down to another node takes
+//! longer than to go over some entries that are one after another in memory; larger pages are slower again.
 //!
 //! The nodes are in a private type, `Subtree`, with one reading call, which takes a counter of steps and counts one: what
 //! a look-up counts are the nodes that it visits. A walk, which promises no bound, counts on counters of its own. Writes

@@ -15,7 +15,7 @@ use xb_values::Prefix;
 pub(crate) type Page<V> = Vec<(Prefix, V)>;
 
 /// A page that has as many entries is split before another one goes in.
-pub(crate) const PAGE: usize = 256;
+pub(crate) const PAGE: usize = 64;
 
 // How many entries are before a prefix.
 fn place<V>(entries: &[(Prefix, V)], key: Prefix) -> usize

@@ -1,7 +1,5 @@
-use Rattle.std.proofs.Common.{◌≡◌, Bool, true, false, sym, ◌∙◌}
-use Rattle.std.specs.Prelude.{is_some, slice_get}
+use Rattle.std.proofs.Common.{sym, ◌∙◌}
 use Rattle.xb_values.specs.Prefixes.{prefix_cmp}
-use Rattle.rib_tree.specs.Pages.{place_of, value_if}
 use Rattle.rib_tree.proofs.PageLemmas as page
 use Rattle.rib_tree.proofs.page.put.Goals as goal
 

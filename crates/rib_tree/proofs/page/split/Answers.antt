@@ -1,6 +1,5 @@
-use Rattle.std.proofs.Common.{◌≡◌, take, drop, sym, subst}
+use Rattle.std.proofs.Common.{take, drop}
 use Rattle.std.proofs.lemmas.List.{take-append-drop}
-use Rattle.xb_words.specs.Table.{IsRising}
 use Rattle.xb_words.proofs.TableSplitLemmas.{IsRising-left}
 use Rattle.xb_values.specs.Prefixes.{prefix_cmp}
 use Rattle.xb_values.proofs.PrefixLemmas.{prefix_total}

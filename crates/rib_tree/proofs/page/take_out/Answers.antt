@@ -1,4 +1,4 @@
-use Rattle.std.proofs.Common.{◌≡◌, Bool, true, false, sym, ◌∙◌}
+use Rattle.std.proofs.Common.{sym, ◌∙◌}
 use Rattle.xb_values.specs.Prefixes.{prefix_cmp}
 use Rattle.rib_tree.proofs.PageLemmas as page
 use Rattle.rib_tree.proofs.page.take_out.Goals as goal
