@@ -1,7 +1,7 @@
 //! Fills a prefix tree and then looks 1,048,576 prefixes up in it, and prints a number that depends on all results.
 //!
-//! It is the program that bench/tree measures; the words are JOB (`fill` or `get`) and PREFIXES (at least 1). Nothing is
-//! proved of it except that it is safe.
+//! It is the program that bench/tree measures; the words are JOB (`fill` or `get`) and PREFIXES (at least 1). Nothing
+//! is proved of it except that it is safe.
 #![tactic(auto)]
 
 ghost use Rattle.std.specs.Prelude.{◌^◌, ◌≤◌};

@@ -42,7 +42,8 @@ module _ {K X : Type 0} (c : K → K → Ordering) (o : IsTotalOrder c) where
   with_value-past q v [] es a = refl
   with_value-past q v (l ∷ ls) es a = rw a.0 (ap (λ (t : List (K × X)). l ∷ t) (with_value-past q v ls es a.1))
 
-  pub without-past : (q : K) (ls es : List (K × X)) → Each c o Greater q ls → without c (ls ++ es) q ≡ ls ++ without c es q
+  pub without-past : (q : K) (ls es : List (K × X)) → Each c o Greater q ls
+      → without c (ls ++ es) q ≡ ls ++ without c es q
   without-past q [] es a = refl
   without-past q (l ∷ ls) es a = rw a.0 (ap (λ (t : List (K × X)). l ∷ t) (without-past q ls es a.1))
 
@@ -72,7 +73,8 @@ module _ {K X : Type 0} (c : K → K → Ordering) (o : IsTotalOrder c) where
   pub entry_after-before : (q : K) (ls es : List (K × X)) → Each c o Less q es
       → entry_after c (ls ++ es) (Some q) ≡ option_or (entry_after c ls (Some q)) (first_of es)
   entry_after-before q ls [] a =
-      ap (λ (t : List (K × X)). entry_after c t (Some q)) (append-nil ls) ∙ sym (option_or-none (entry_after c ls (Some q)))
+      ap (λ (t : List (K × X)). entry_after c t (Some q)) (append-nil ls)
+      ∙ sym (option_or-none (entry_after c ls (Some q)))
   entry_after-before q ls (e ∷ es) a = entry_after-less c o q ls e es a.0 ∙ or_entry-is (entry_after c ls (Some q)) e
 
   -- two lists whose keys rise, each of the first below all of the second

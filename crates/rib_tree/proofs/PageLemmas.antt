@@ -29,9 +29,11 @@ module _ {K X : Type 0} (c : K → K → Ordering) (o : IsTotalOrder c) where
       → value_at c es k ≡ value_if c k (slice_get es (place_of c k es))
   value_at-place k [] rising = refl
   value_at-place k (e ∷ es) rising = by_ordering (c k e.0)
-      (λ l. rw (turned c o k e.0 Less l, l) (value_at-above c o k es (Each-trans c o k e es l (IsRising-head c o e es rising))))
+      (λ l. rw (turned c o k e.0 Less l, l)
+      (value_at-above c o k es (Each-trans c o k e es l (IsRising-head c o e es rising))))
       (λ q. rw (turned c o k e.0 Equal q, q) refl)
-      (λ g. rw (turned c o k e.0 Greater g, one-add (place_of c k es), g) (value_at-place k es (IsRising-tail c o e es rising)))
+      (λ g. rw (turned c o k e.0 Greater g, one-add (place_of c k es), g)
+      (value_at-place k es (IsRising-tail c o e es rising)))
 
   -- a value that is there is replaced at that index
   pub with_value-there : ((x y : K) → c x y ≡ Equal → x ≡ y) → (k : K) (v : X) (es : List (K × X))
@@ -89,8 +91,8 @@ module _ {V : Type 0} where
       → value_at prefix_cmp es k ≡ value_if prefix_cmp k (slice_get es (place_of prefix_cmp k es))
   look_up_page k es rising = value_at-place prefix_cmp prefix_total k es rising
 
-  address_rises : (a : ℕ) (e : Prefix × V) (es : List (Prefix × V)) → a ≤ e.0.addr → Each prefix_cmp prefix_total Less e.0 es
-      → AllFrom a es
+  address_rises : (a : ℕ) (e : Prefix × V) (es : List (Prefix × V)) → a ≤ e.0.addr
+      → Each prefix_cmp prefix_total Less e.0 es → AllFrom a es
   address_rises a e [] from each = tt
   address_rises a e (x ∷ es) from each =
       (omega (arith, from, addresses_rise e.0 x.0 each.0), address_rises a e es from each.1)

@@ -11,7 +11,8 @@ use Rattle.std.specs.Option.{option_or}
 use Rattle.std.specs.declared.cmp.Ordering.TheVariants.{Less, Greater}
 use Rattle.xb_words.specs.Table.{value_at, with_value, without, entry_after, first_of, IsRising}
 use Rattle.xb_words.proofs.TableSplitLemmas.{Each}
-use Rattle.xb_words.proofs.TableLemmas.{AllByRecursion-with_value, AllByRecursion-without, IsRising-with_value, IsRising-without}
+use Rattle.xb_words.proofs.TableLemmas.{AllByRecursion-with_value, AllByRecursion-without}
+use Rattle.xb_words.proofs.TableLemmas.{IsRising-with_value, IsRising-without}
 use Rattle.xb_values.specs.Prefixes.{Prefix, prefix_cmp}
 use Rattle.xb_values.proofs.PrefixLemmas.{prefix_total}
 use Rattle.rib_tree.specs.declared.node.Node.{Node, Leaf, Fork'}
@@ -26,7 +27,8 @@ two_halves zero some = absurd (omega arith)
 two_halves (suc b) some = let b_is : suc b - 1 ≡ b = omega arith in rw b_is (two-pow-succ b)
 
 -- the address of a prefix of a block is one of the lower half
-pub IsIn-low : (first bits : ℕ) (k : Prefix) → IsIn first bits k → k.addr < first + 2 ^ (bits - 1) → IsIn first (bits - 1) k
+pub IsIn-low : (first bits : ℕ) (k : Prefix) → IsIn first bits k → k.addr < first + 2 ^ (bits - 1)
+    → IsIn first (bits - 1) k
 IsIn-low first bits k key lower = record { least = key.least; most = lower }
 
 -- or of the upper one
@@ -50,7 +52,8 @@ module _ {V : Type 0} where
 
   -- the entries of the lower half are in the block
   pub AllIn-low : (first bits : ℕ) (es : List (Prefix × V)) → 0 < bits → AllIn first (bits - 1) es → AllIn first bits es
-  AllIn-low first bits es some a = all_wider first bits first (bits - 1) es (omega arith) (omega (arith, two_halves bits some)) a
+  AllIn-low first bits es some a =
+      all_wider first bits first (bits - 1) es (omega arith) (omega (arith, two_halves bits some)) a
 
   -- so are those of the upper half
   pub AllIn-high : (first bits : ℕ) (es : List (Prefix × V)) → 0 < bits → AllIn (first + 2 ^ (bits - 1)) (bits - 1) es
@@ -159,7 +162,8 @@ module _ {V : Type 0} where
   first_of_halves low high = append.first_of-append (entries_of low) (entries_of high)
 
   -- a leaf of a half is one of the block
-  pub leaf-low : (first bits : ℕ) (t : Node V) → is_leaf t ≡ true → 0 < bits → IsTree first (bits - 1) t → IsTree first bits t
+  pub leaf-low : (first bits : ℕ) (t : Node V) → is_leaf t ≡ true → 0 < bits → IsTree first (bits - 1) t
+      → IsTree first bits t
   leaf-low first bits (Leaf page) leaf some tree = (tree.0, AllIn-low first bits page.items some tree.1)
   leaf-low first bits (Fork' p low high) leaf some tree = absurd (cc leaf)
 
@@ -190,7 +194,8 @@ module _ {V : Type 0} where
   page_put (Err x) first bits es new k v ok err rising within key = rw err (rising, within)
 
   -- and after a removal
-  pub page_without : (first bits : ℕ) (es : List (Prefix × V)) (k : Prefix) → IsRising prefix_cmp es → AllIn first bits es
+  pub page_without : (first bits : ℕ) (es : List (Prefix × V)) (k : Prefix) → IsRising prefix_cmp es
+      → AllIn first bits es
       → IsRising prefix_cmp (without prefix_cmp es k) × AllIn first bits (without prefix_cmp es k)
   page_without first bits es k rising within = (
     IsRising-without prefix_cmp prefix_total es k rising,
@@ -198,8 +203,8 @@ module _ {V : Type 0} where
   )
 
   -- the pages of a cut at the middle are of the halves
-  pub AllIn-below : (first bits : ℕ) (es : List (Prefix × V)) → AllIn first bits es → AllBelow (first + 2 ^ (bits - 1)) es
-      → AllIn first (bits - 1) es
+  pub AllIn-below : (first bits : ℕ) (es : List (Prefix × V)) → AllIn first bits es
+      → AllBelow (first + 2 ^ (bits - 1)) es → AllIn first (bits - 1) es
   AllIn-below first bits [] within below = tt
   AllIn-below first bits (e ∷ es) within below =
       (record { least = within.0.least; most = below.0 }, AllIn-below first bits es within.1 below.1)
@@ -216,12 +221,14 @@ module _ {V : Type 0} where
   pub cut-low : (first bits : ℕ) (es ls rs : List (Prefix × V)) → ls ++ rs ≡ es → AllIn first bits es
       → AllBelow (first + 2 ^ (bits - 1)) ls → AllIn first (bits - 1) ls
   cut-low first bits es ls rs is within below =
-      AllIn-below first bits ls (AllByRecursion-left (λ (e : Prefix × V). IsIn first bits e.0) ls rs (rw is within)) below
+      AllIn-below first bits ls
+      (AllByRecursion-left (λ (e : Prefix × V). IsIn first bits e.0) ls rs (rw is within)) below
 
   pub cut-high : (first bits : ℕ) (es ls rs : List (Prefix × V)) → ls ++ rs ≡ es → 0 < bits → AllIn first bits es
       → AllFrom (first + 2 ^ (bits - 1)) rs → AllIn (first + 2 ^ (bits - 1)) (bits - 1) rs
   cut-high first bits es ls rs is some within from =
-      AllIn-from first bits rs some (AllByRecursion-right (λ (e : Prefix × V). IsIn first bits e.0) ls rs (rw is within)) from
+      AllIn-from first bits rs some
+      (AllByRecursion-right (λ (e : Prefix × V). IsIn first bits e.0) ls rs (rw is within)) from
 
   -- a path has a node
   pub nodes_some : (first bits : ℕ) (k : Prefix) (t : Node V) → 1 ≤ nodes_to first bits k t

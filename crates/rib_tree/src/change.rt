@@ -1,5 +1,5 @@
 // Writes and removals: each takes the nodes of one path apart and puts them together again.
-ghost use Rattle.std.specs.Prelude.{◌≡◌, ◌+◌, ◌-◌, ◌^◌, ◌<◌, ◌++◌, [], None, IsTrue, MatchResult, IfOk, IfErr, OnOk, OnErr};
+ghost use Rattle.std.specs.Prelude.{◌≡◌, ◌+◌, ◌-◌, ◌^◌, ◌<◌, ◌++◌, [], None, IsTrue, IfOk, IfErr, OnOk, OnErr};
 ghost use Rattle.xb_words.specs.Table.{value_at, with_value, without, IsRising};
 ghost use Rattle.xb_values.specs.Prefixes.{prefix_cmp};
 ghost use Rattle.rib_tree.specs.Trees.{entries_of, is_leaf, AllIn, IsIn, IsTree};

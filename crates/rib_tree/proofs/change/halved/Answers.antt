@@ -19,6 +19,6 @@ returns-in-Ok-split-clause-high g c =
     rw c.of-in-Ok-split.ensures (
       c.in-Ok-split.ensures.rising_others,
       cut-high c.args.block.first c.args.block.bits
-          c.args.page.items c.split.new.entries.items c.in-Ok-split.others.items c.in-Ok-split.ensures.ok c.requires.some
-          c.requires.within from,
+          c.args.page.items c.split.new.entries.items c.in-Ok-split.others.items c.in-Ok-split.ensures.ok
+          c.requires.some c.requires.within from,
     )
