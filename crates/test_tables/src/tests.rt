@@ -3,11 +3,12 @@ use bgp_attr::MAX_CANONICAL;
 use bpf_machine::Cause;
 use out_sorted::SortedOut;
 use rib_table::PeerTable;
+use rib_tree::Tree;
 use std::alloc::Global;
 use std::test::Fail;
 use table_print::{adv_line, drained_line, fault_line, map_line, output_line, route_line};
 use xb_domain::{Output, Point};
-use xb_values::{Buf, Prefix};
+use xb_values::{Buf, Prefix, Steps};
 use xb_wire::numbers::{MARKER, MAX_MESSAGE, MAX_SECTION};
 use xbgp_view::SectionView;
 
@@ -29,6 +30,72 @@ fn a_route_is_kept_and_removed(rt: HostRuntime) -> Result<(), Fail> {
     assert_eq!(rt; table.after(Some(prefix)), None);
     assert!(rt; table.remove(prefix));
     assert!(rt; !table.remove(prefix));
+    Ok(())
+}
+
+// The nodes that a look-up of 0.0.0.0 with this length visits, if the length is its value.
+fn steps_to(tree: &Tree<u8>, len: u8) -> Option<u64> {
+    let mut steps = Steps::start();
+    let value = tree.get(Prefix::new(0, len)?, &mut steps)?;
+    (*value == len).then_some(steps.count())
+}
+
+#[test]
+fn a_tree_keeps_prefixes_of_one_address_apart(rt: HostRuntime) -> Result<(), Fail> {
+    let mut tree = Tree::make(rt.alloc())?;
+    for len in 0..=32 {
+        let prefix = Prefix::new(0, len).ok_or("no prefix")?;
+        assert_eq!(rt; tree.insert(prefix, len), Ok(None));
+    }
+    let steps = steps_to(&tree, 32).ok_or("no value")?;
+    assert!(rt; (1..=33).contains(&steps));
+    let removed = Prefix::new(0, 16).ok_or("no prefix")?;
+    assert_eq!(rt; tree.remove(removed), Some(16));
+    for len in 0..=32 {
+        assert_eq!(rt; steps_to(&tree, len).is_some(), len != 16);
+    }
+    assert_eq!(rt; tree.after(None), Prefix::new(0, 0));
+    assert_eq!(rt; tree.after(Prefix::new(0, 15)), Prefix::new(0, 17));
+    Ok(())
+}
+
+#[test]
+fn a_tree_hands_the_old_value_back(rt: HostRuntime) -> Result<(), Fail> {
+    let mut tree = Tree::make(rt.alloc())?;
+    let network = Prefix::new(0x0a00_0000, 8).ok_or("no prefix")?;
+    let host = Prefix::new(0x0a00_0000, 32).ok_or("no prefix")?;
+    assert_eq!(rt; tree.insert(network, 1), Ok(None));
+    assert_eq!(rt; tree.insert(host, 2), Ok(None));
+    assert_eq!(rt; tree.get(host, &mut Steps::start()).copied(), Some(2));
+    assert_eq!(rt; tree.insert(network, 3), Ok(Some(1)));
+    Ok(())
+}
+
+// The nodes that a look-up of a prefix of length 16 visits, if its number is its value.
+fn steps_to_number(tree: &Tree<u32>, number: u32) -> Option<u64> {
+    let mut steps = Steps::start();
+    let value = tree.get(Prefix::new(number << 16, 16)?, &mut steps)?;
+    (*value == number).then_some(steps.count())
+}
+
+// More prefixes of one length than a page has, and than a few pages have.
+#[test]
+fn a_tree_of_many_nodes_gives_all_back(rt: HostRuntime) -> Result<(), Fail> {
+    let mut tree = Tree::make(rt.alloc())?;
+    for number in 0..2000u32 {
+        let prefix = Prefix::new(number << 16, 16).ok_or("no prefix")?;
+        assert_eq!(rt; tree.insert(prefix, number), Ok(None));
+    }
+    for number in 0..2000u32 {
+        let steps = steps_to_number(&tree, number).ok_or("no value")?;
+        assert!(rt; (2..=33).contains(&steps));
+    }
+    for number in 0..2000u32 {
+        let prefix = Prefix::new(number << 16, 16).ok_or("no prefix")?;
+        assert_eq!(rt; tree.after(None), Some(prefix));
+        assert_eq!(rt; tree.remove(prefix), Some(number));
+    }
+    assert_eq!(rt; tree.after(None), None);
     Ok(())
 }
 

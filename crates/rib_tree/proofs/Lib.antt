@@ -1,0 +1,4 @@
+pub mod AddressLemmas
+pub mod AppendLemmas
+pub mod PageLemmas
+pub mod TreesLemmas

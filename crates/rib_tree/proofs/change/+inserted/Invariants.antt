@@ -1,0 +1,4 @@
+use Rattle.rib_tree.proofs.change.+inserted.Given as goal
+
+abbrev pub decreases-inserted : goal.decreases-inserted
+decreases-inserted g l = l.block.bits

@@ -1,0 +1,7 @@
+use Rattle.rib_tree.proofs.TreesLemmas.{tree_rises}
+use Rattle.rib_tree.proofs.tree.Tree.remove.Goals as goal
+
+pub returns-clause-rising : goal.returns-clause-rising
+returns-clause-rising g c =
+    tree_rises 0 32 c.removed-root.result.0.node
+    (rw (c.whole.ensures.first, c.whole.ensures.bits) at c.removed-root.ensures.tree)
