@@ -70,7 +70,7 @@ size_of-longer a b h = elim (cases_Bool (nat_lt 255 (length b.value))) [
 -- the path of a route after its AS_PATH was read, with a number prepended
 pub record IsPrepended (r : Route) (asn : ℕ) (walk : PathWalk) : Type 0 where
   pub text : prepended walk asn ≡ path_octets 4 (prepend asn (path_of r))
-  pub short : length (prepended walk asn) ≤ MAX_CANONICAL
+  pub short : length (prepended walk asn) ≤ length (canon r) + 7
   pub fits : nat_le (length (canon (with_attribute r AS_PATH WELL_KNOWN (prepended walk asn)))) MAX_CANONICAL ≡ true
   pub bound : length (canon (with_attribute r AS_PATH WELL_KNOWN (prepended walk asn))) ≤ length (canon r) + 7
 
@@ -92,7 +92,7 @@ IsPrepended-read r asn walk a value is short there v w bound =
     omega (arith, grown, old, size_of-longer a b more) in
     record {
       text = text;
-      short = omega (arith, more, entry.1, short);
+      short = omega (arith, more, entry.1);
       fits = le-leb (length (canon (with_attribute r AS_PATH WELL_KNOWN (prepended walk asn)))) MAX_CANONICAL
           (omega (arith, most, short));
       bound = most;

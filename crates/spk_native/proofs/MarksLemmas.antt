@@ -18,7 +18,7 @@ use Rattle.bgp_attr.specs.declared.flags.TheConstants.{PARTIAL}
 use Rattle.bgp_attr.specs.declared.TheConstants.{MAX_CANONICAL}
 use Rattle.bgp_attr.specs.Routes.{Attribute, Route, attribute_at, with_attribute, canon, canonical, kept_flags, IsRoute}
 use Rattle.bgp_attr.specs.Rules.{is_known}
-use Rattle.xbgp_view.specs.Views.{code_from}
+use Rattle.xbgp_view.specs.Views.{code_from, flags_and_length}
 use Rattle.xbgp_view.proofs.LengthsLemmas.{length-canonical}
 use Rattle.xbgp_view.proofs.ViewsLemmas.{IsEntry-attribute_at}
 use Rattle.xbgp_view.proofs.LowerLemmas.{eq-nat_cmp, lt-nat_cmp, nat_cmp-equal, below_none, past_all}
@@ -66,12 +66,6 @@ marked_below-above n code (e ∷ r) h all =
     (le-ltb e.0 n (omega (arith, lt-nat_cmp code e.0 all.0, h)))
     ∙ ap (λ (l : Route). e ∷ l) (marked_below-above n code r h all.1)
 
-pub marked_below-zero : (r : Route) → marked_below 0 r ≡ r
-marked_below-zero [] = refl
-marked_below-zero (e ∷ r) =
-    ap (λ b. (if b then marked_partial e else e) ∷ marked_below 0 r) (le-ltb e.0 0 (omega arith))
-    ∙ ap (λ (l : Route). e ∷ l) (marked_below-zero r)
-
 -- the codes stay
 key-marked_below : (n : ℕ) (e : ℕ × Attribute) → (if nat_lt e.0 n then marked_partial e else e).0 ≡ e.0
 key-marked_below n e = elim (cases_Bool (nat_lt e.0 n)) [
@@ -97,6 +91,24 @@ code_from-marked_below n [] from = refl
 code_from-marked_below n (e ∷ r) from =
     code_from-cons (if nat_lt e.0 n then marked_partial e else e) e (marked_below n r) r from (key-marked_below n e)
     (code_from-marked_below n r from)
+
+-- the codes 1 to 7 are recognized, so marking them marks nothing
+pub marked_below-known : (r : Route) → marked_at 0 r ≡ marked_below 8 r
+marked_below-known [] = refl
+marked_below-known (e ∷ r) = ap (λ (d : ℕ × Attribute). d ∷ marked_at 0 r) first
+    ∙ ap (λ (l : Route). (if nat_lt e.0 8 then marked_partial e else e) ∷ l) (marked_below-known r)
+  where
+    first : (if e.0 == 0 then marked_partial e else e) ≡ (if nat_lt e.0 8 then marked_partial e else e)
+    first = elim (eqb_tells e.0 0) [
+      | inl same ↦ rw (same.0, lt-ltb e.0 8 (omega (arith, same.1))) refl
+      | inr other ↦ elim (cases_Bool (nat_lt e.0 8)) [
+        | inl below ↦
+            let known : is_known e.0 ≡ true =
+            rw (le-leb 1 e.0 (omega (arith, other.1)), le-leb e.0 7 (omega (arith, ltb-true e.0 8 below))) refl in
+            rw (other.0, below) (sym (known-marked_partial e known))
+        | inr above ↦ rw (other.0, above) refl
+      ]
+    ]
 
 -- if no code is left, all are marked
 pub marked_below-all : (r : Route) (from : ℕ) → None ≡ code_from r from → marked_below from r ≡ map marked_partial r
@@ -260,6 +272,15 @@ marked_at-left code r a rising there not_transitive =
     marked_at-set_marked code r rising ∙ ap (λ o. set_marked code o r) there
     ∙ ap (λ (e : ℕ × Attribute). with_value nat_cmp r code e.1) left
     ∙ with_value-same code a r rising there
+
+-- an attribute of which no flags are shown is not there
+pub attribute_at-no_flags : (r : Route) (code : ℕ) → None ≡ flags_and_length r code → attribute_at r code ≡ None
+attribute_at-no_flags r code told = go (attribute_at r code) told
+  where
+    go : (o : Option Attribute) → ◌≡◌ {A = Option (ℕ × ℕ)} None (option_map (λ a. (a.flags, length a.value)) o)
+        → o ≡ None
+    go None told = refl
+    go (Some a) told = absurd (cc told)
 
 -- the test of the flag
 pub is_transitive-set : (f : ℕ) → (bit_and f 64 ≡ 0 → ⊥) → is_transitive f ≡ true

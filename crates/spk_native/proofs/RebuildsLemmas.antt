@@ -1,6 +1,6 @@
 -- What a route with attributes removed and set has for each code, and how long its canonical section is.
 use Rattle.std.proofs.Common.{◌≡◌, inl, inr, refl, sym, ap, ◌∙◌, ℕ, ◌+◌, ◌≤◌, Bool, true, false, cond, List, [], ◌∷◌}
-use Rattle.std.proofs.Common.{◌++◌, length, take, drop, Option, Some, None, arith, nat_le, nat_lt}
+use Rattle.std.proofs.Common.{◌++◌, length, Option, Some, None, arith, nat_le, nat_lt}
 use Rattle.std.specs.Prelude.{sum_by, if◌then◌else◌}
 use Rattle.std.specs.Map.{keys_of, values_of}
 use Rattle.std.specs.BTreeMap.{is_at}
@@ -8,9 +8,9 @@ use Rattle.std.specs.Ordering.{nat_cmp, is_eq}
 use Rattle.std.specs.List.Sorted.{IsStrictlySortedBy}
 use Rattle.std.specs.declared.cmp.Ordering.{Ordering}
 use Rattle.std.specs.declared.cmp.Ordering.TheVariants.{Less, Equal, Greater}
-use Rattle.std.proofs.lemmas.Bool.{cases_Bool, le-leb, le-ltb}
+use Rattle.std.proofs.lemmas.Bool.{cases_Bool, le-leb}
 use Rattle.std.proofs.lemmas.Cmp.{nat_cmp_total, eq_by_cmp_equiv}
-use Rattle.std.proofs.lemmas.List.{length-append, take_at}
+use Rattle.std.proofs.lemmas.List.{length-append}
 use Rattle.std.proofs.lemmas.List.Sums.{sum_by-cons}
 use Rattle.std.proofs.lemmas.Map.{lookup-remove_entry}
 use Rattle.std.proofs.lemmas.Map.Entries.{sum_by-remove_entry, sum_by-insert_entry}
@@ -19,7 +19,7 @@ use Rattle.xb_words.specs.Table.{with_value}
 use Rattle.bgp_attr.specs.declared.TheConstants.{MAX_CANONICAL}
 use Rattle.bgp_attr.specs.Routes.{Attribute, Route, attribute_at, with_attribute, without_attribute, canon, canonical}
 use Rattle.bgp_attr.specs.Routes.{kept_flags, IsRoute}
-use Rattle.xbgp_view.specs.Views.{copied, flags_and_length}
+use Rattle.xbgp_view.specs.Views.{flags_and_length}
 use Rattle.xbgp_view.proofs.ViewsLemmas.{flags_and_length-some, value_in, IsEntry-attribute_at}
 use Rattle.xbgp_view.proofs.LengthsLemmas.{length-canonical}
 use Rattle.xbgp_view.proofs.LowerLemmas.{eq-nat_cmp}
@@ -277,26 +277,4 @@ IsShort-some r code flags n is told =
       value = omega (arith, k.1, entry.1, is.short);
       size = ap size_if k.0 ∙ ap (λ m. (if nat_lt 255 m then 4 else 3) + m) k.1;
       whole = omega (arith, length-without r code, is.short);
-    }
-
--- the value that was copied of an attribute is its value
-pub record IsCopied (r : Route) (code flags n : ℕ) (new : List ℕ) : Type 0 where
-  pub short : n ≤ MAX_CANONICAL
-  pub value : ◌≡◌ {A = Option Attribute} (Some (record { flags = flags; value = take n new })) (attribute_at r code)
-
-pub IsCopied-copied : (r : Route) (code flags n : ℕ) (old new : List ℕ) → IsRoute r
-    → ◌≡◌ {A = Option (ℕ × ℕ)} (Some (flags, n)) (flags_and_length r code) → length old ≡ MAX_CANONICAL
-    → new ≡ copied (attribute_at r code) old → IsCopied r code flags n new
-IsCopied-copied r code flags n old new is told size e =
-    let k = flags_and_length-some (attribute_at r code) flags n told in
-    let v = value_in (attribute_at r code) in
-    let short = IsShort-some r code flags n is told in
-    let fits : length v ≤ length old = omega (arith, k.1, short.value, size) in
-    let here : new ≡ v ++ drop (length v) old =
-    e ∙ ap (λ o. copied o old) k.0 ∙ rw (le-ltb (length old) (length v) fits) refl in
-    record {
-      short = short.value;
-      value = ap (λ (t : List ℕ). Some (record { flags = flags; value = t }))
-          (ap (take n) here ∙ take_at v (drop (length v) old) n k.1)
-          ∙ sym k.0;
     }

@@ -184,9 +184,9 @@ kept_same r code is = go (attribute_at r code) refl
         (IsEntry-attribute_at r code a is.entries e).0
 
 -- a narrow route is a route with other attributes for the four codes
-pub rebuilt-narrow : (r : Route) → IsRoute r → rebuilt (narrow_four r) r ≡ narrow r
+pub rebuilt-narrow : (r : Route) → IsRoute r → rebuilt (narrow_four (four_of r)) r ≡ narrow r
 rebuilt-narrow r is =
-    let f = narrow_four r in
+    let f = narrow_four (four_of r) in
     let g = narrow_set r in
     same_route (rebuilt f r) (set_four g r) (rising-rebuilt f r is.rising) (rising-set_four g r is.rising)
     (λ q. at-rebuilt f r q is.rising
@@ -233,7 +233,7 @@ faultless_aggregator w r None none e = tt
 faultless_aggregator w r (Some a) none e = length-AGGREGATOR w a.flags a.value (none 7 a (sym e))
 
 -- a received route, with what AS4_PATH and AS4_AGGREGATOR say of it
-widened-used : (r : Route) → widened r ≡ widened_by (used_path r) (used_aggregator r) r
+widened-used : (r : Route) → widened r ≡ widened_by (used_path (four_of r)) (used_aggregator (four_of r)) r
 widened-used r = elim (cases_Bool (aggregated_since (attribute_at r 7) (good_aggregator r))) [
   | inl since ↦ rw since refl
   | inr before ↦ rw before refl
@@ -241,16 +241,17 @@ widened-used r = elim (cases_Bool (aggregated_since (attribute_at r 7) (good_agg
 
 -- the same, attribute by attribute
 pub inflow-set_if : (r : Route)
-    → inflow r false ≡ without_narrow (set_if 7 (wide_four r).aggregator (set_if 2 (wide_four r).path r))
+    → inflow r false
+    ≡ without_narrow (set_if 7 (wide_four (four_of r)).aggregator (set_if 2 (wide_four (four_of r)).path r))
 unfolding inflow
 inflow-set_if r =
     ap without_narrow (widened-used r
-    ∙ with_value_by-both (aggregator_with (used_aggregator r)) (path_with (used_path r)) r)
+    ∙ with_value_by-both (aggregator_with (used_aggregator (four_of r))) (path_with (used_path (four_of r))) r)
 
 -- a received route is a route with other attributes for the four codes
-pub rebuilt-wide : (r : Route) → IsRoute r → rebuilt (wide_four r) r ≡ inflow r false
+pub rebuilt-wide : (r : Route) → IsRoute r → rebuilt (wide_four (four_of r)) r ≡ inflow r false
 rebuilt-wide r is =
-    let f = wide_four r in
+    let f = wide_four (four_of r) in
     let r2 = set_if 2 f.path r in
     let r7 = set_if 7 f.aggregator r2 in
     let s7 = rising-set_if r2 7 f.aggregator (rising-set_if r 2 f.path is.rising) in
@@ -260,8 +261,8 @@ rebuilt-wide r is =
     (λ q. at-rebuilt f r q is.rising
     ∙ by_code (λ k. four_over f k (less 18 k (less 17 k (less 7 k (less 2 k (attribute_at r k)))))
     ≡ less 18 k (less 17 k (over 7 f.aggregator k (over 2 f.path k (attribute_at r k)))))
-    (valued_over (path_with (used_path r)) (attribute_at r 2))
-    (valued_over (aggregator_with (used_aggregator r)) (attribute_at r 7))
+    (valued_over (path_with (used_path (four_of r))) (attribute_at r 2))
+    (valued_over (aggregator_with (used_aggregator (four_of r))) (attribute_at r 7))
     refl refl
     (λ k f2 f7 f17 f18. rw (f2, f7, f17, f18) refl) q
     ∙ sym (at-without (without_attribute r7 17) 18 q s17
@@ -275,13 +276,13 @@ size_kept None = refl
 size_kept (Some a) = refl
 
 -- the AS_PATH of a received route has room in the section
-pub length-wide_path : (r : Route) (o : Option Attribute) (most : ℕ) → IsRoute r → o ≡ (wide_four r).path
-    → most < size_if o → most < length (canon (inflow r false))
-length-wide_path r o most is e long =
-    let f = wide_four r in
+pub length-wide_path : (r : Route) (most : ℕ) → IsRoute r → most < size_if (wide_four (four_of r)).path
+    → most < length (canon (inflow r false))
+length-wide_path r most is long =
+    let f = wide_four (four_of r) in
     let got : attribute_at (inflow r false) 2 ≡ or_other (kept f.path) None =
     ap (λ s. attribute_at s 2) (sym (rebuilt-wide r is)) ∙ at-rebuilt f r 2 is.rising in
-    omega (arith, long, ap size_if e, ap size_if got ∙ size_kept f.path, length-without (inflow r false) 2)
+    omega (arith, long, ap size_if got ∙ size_kept f.path, length-without (inflow r false) 2)
 
 unless_now : (since : Bool) (p : Option (Bor (List ℕ)))
     → option_map (λ q. q.now) (if since then None else p) ≡ (if since then None else option_map (λ q. q.now) p)
@@ -289,15 +290,15 @@ unless_now true p = refl
 unless_now false p = refl
 
 -- a value that counts unless AGGREGATOR was set later
-pub used : (r : Route) (f : Four) (w p u : Option (Bor (List ℕ))) (since : Bool) (x : Option (List ℕ)) → f ≡ four_of r
+pub used : (f : Four) (w p u : Option (Bor (List ℕ))) (since : Bool) (x : Option (List ℕ))
     → option_map (λ q. q.now) w ≡ good is_good_aggregator f.aggregator4
     → since ≡ aggregated_since f.aggregator (option_map (λ q. q.now) w) → u ≡ (if since then None else p)
     → option_map (λ q. q.now) p ≡ x
-    → option_map (λ q. q.now) u ≡ (if aggregated_since (attribute_at r 7) (good_aggregator r) then None else x)
-used r f w p u since x is we se ue pe =
-    let later : since ≡ aggregated_since (attribute_at r 7) (good_aggregator r) =
-    se ∙ ap (aggregated_since f.aggregator) (we ∙ ap (λ (g : Four). good is_good_aggregator g.aggregator4) is)
-    ∙ ap (λ (g : Four). aggregated_since g.aggregator (good_aggregator r)) is in
+    → option_map (λ q. q.now) u
+    ≡ (if aggregated_since f.aggregator (good is_good_aggregator f.aggregator4) then None else x)
+used f w p u since x we se ue pe =
+    let later : since ≡ aggregated_since f.aggregator (good is_good_aggregator f.aggregator4) =
+    se ∙ ap (aggregated_since f.aggregator) we in
     ap (option_map (λ q. q.now)) ue ∙ unless_now since p
     ∙ ap (λ (y : Option (List ℕ)). if since then None else y) pe
     ∙ ap (λ (b : Bool). if b then None else x) later

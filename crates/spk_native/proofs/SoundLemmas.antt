@@ -32,7 +32,7 @@ use Rattle.spk_native.specs.Laws.{wide_narrow_law}
 use Rattle.spk_native.specs.Receipt.{aggregated_since, aggregator_with, good, good_aggregator, good_path, inflow}
 use Rattle.spk_native.specs.Receipt.{is_good_aggregator, is_good_path, is_optional_transitive, path_with}
 use Rattle.spk_native.specs.Receipt.{wide_aggregator}
-use Rattle.spk_native.specs.Rebuilds.{or_other, set_if, used_aggregator, used_path, valued, wide_four}
+use Rattle.spk_native.specs.Rebuilds.{four_of, or_other, set_if, used_aggregator, used_path, valued, wide_four}
 use Rattle.spk_native.specs.Values.{HasNoFault, IsFaultless, has_sound, is_sound}
 use Rattle.spk_native.proofs.FaultLemmas.{attr_fault-kept, attr_fault-width, attr_fault-AS_PATH, attr_fault-AGGREGATOR}
 use Rattle.spk_native.proofs.FormedLemmas.{IsFormed, IsFormed-route_of, IsFormed-without_attribute, route_of-each}
@@ -273,7 +273,7 @@ octets_at r code is = go (attribute_at r code) refl
     go (Some a) e = is.octets code a e
 
 path_ok-used : (r : Route) (v : List ℕ) → IsFormed r → path_ok 2 v ≡ true
-    → path_ok 4 (path_with (used_path r) v) ≡ true
+    → path_ok 4 (path_with (used_path (four_of r)) v) ≡ true
 path_ok-used r v is ok = elim (cases_Bool (aggregated_since (attribute_at r 7) (good_aggregator r))) [
   | inl since ↦ ap (λ b. path_ok 4 (path_with (if b then None else good_path r) v)) since ∙ path_ok-wide_path v ok
   | inr before ↦
@@ -297,7 +297,7 @@ length-good v (Some a) six = elim (cases_Bool (is_good_aggregator a)) [
       ap (λ b. length (aggregator_with (if b then Some a.value else None) v)) not_usable ∙ length-wide_aggregator v six
 ]
 
-length-used : (r : Route) (v : List ℕ) → length v ≡ 6 → length (aggregator_with (used_aggregator r) v) ≡ 8
+length-used : (r : Route) (v : List ℕ) → length v ≡ 6 → length (aggregator_with (used_aggregator (four_of r)) v) ≡ 8
 length-used r v six = elim (cases_Bool (aggregated_since (attribute_at r 7) (good_aggregator r))) [
   | inl since ↦
       ap (λ b. length (aggregator_with (if b then None else good_aggregator r) v)) since ∙ length-wide_aggregator v six
@@ -308,12 +308,14 @@ length-used r v six = elim (cases_Bool (aggregated_since (attribute_at r 7) (goo
 
 -- what a route that was received in two octets has for a code
 abbrev flowed : Route → ℕ → Option Attribute → Option Attribute
-flowed r q x = less 18 q (less 17 q (over 7 (wide_four r).aggregator q (over 2 (wide_four r).path q x)))
+flowed r q x =
+    let f = wide_four (four_of r) in
+    less 18 q (less 17 q (over 7 f.aggregator q (over 2 f.path q x)))
 
 at-inflow : (r : Route) (q : ℕ) → IsStrictlySortedBy nat_cmp (keys_of r)
     → attribute_at (inflow r false) q ≡ flowed r q (attribute_at r q)
 at-inflow r q rising =
-    let f = wide_four r in
+    let f = wide_four (four_of r) in
     let r2 = set_if 2 f.path r in
     let r7 = set_if 7 f.aggregator r2 in
     let s7 = rising-set_if r2 7 f.aggregator (rising-set_if r 2 f.path rising) in
@@ -334,27 +336,28 @@ valued_fault w code to (Some b) none a e =
     (attr_fault-kept w code b.flags (to b.value) ∙ none)
 
 path_fault : (r : Route) → IsFormed r → IsFaultless 2 r
-    → IfSome (attribute_at r 2) (λ b. attr_fault 4 2 b.flags (path_with (used_path r) b.value) ≡ None)
+    → IfSome (attribute_at r 2) (λ b. attr_fault 4 2 b.flags (path_with (used_path (four_of r)) b.value) ≡ None)
 path_fault r is none = go (attribute_at r 2) refl
   where
     go : (o : Option Attribute) → attribute_at r 2 ≡ o
-        → IfSome o (λ b. attr_fault 4 2 b.flags (path_with (used_path r) b.value) ≡ None)
+        → IfSome o (λ b. attr_fault 4 2 b.flags (path_with (used_path (four_of r)) b.value) ≡ None)
     go None e = tt
     go (Some b) e =
         let old = none 2 b e in
-        attr_fault-AS_PATH 2 4 b.flags b.value (path_with (used_path r) b.value) old
+        attr_fault-AS_PATH 2 4 b.flags b.value (path_with (used_path (four_of r)) b.value) old
         (path_ok-used r b.value is (path_ok-no_fault 2 b.flags b.value old))
 
 aggregator_fault : (r : Route) → IsFaultless 2 r
-    → IfSome (attribute_at r 7) (λ b. attr_fault 4 7 b.flags (aggregator_with (used_aggregator r) b.value) ≡ None)
+    → IfSome (attribute_at r 7) (λ b.
+    attr_fault 4 7 b.flags (aggregator_with (used_aggregator (four_of r)) b.value) ≡ None)
 aggregator_fault r none = go (attribute_at r 7) refl
   where
     go : (o : Option Attribute) → attribute_at r 7 ≡ o
-        → IfSome o (λ b. attr_fault 4 7 b.flags (aggregator_with (used_aggregator r) b.value) ≡ None)
+        → IfSome o (λ b. attr_fault 4 7 b.flags (aggregator_with (used_aggregator (four_of r)) b.value) ≡ None)
     go None e = tt
     go (Some b) e =
         let old = none 7 b e in
-        attr_fault-AGGREGATOR 2 4 b.flags b.value (aggregator_with (used_aggregator r) b.value) old
+        attr_fault-AGGREGATOR 2 4 b.flags b.value (aggregator_with (used_aggregator (four_of r)) b.value) old
         (length-used r b.value (length-AGGREGATOR 2 b.flags b.value old))
 
 differs : (k q : ℕ) → is_eq (nat_cmp k q) ≡ false → q ≡ k → ⊥
@@ -372,8 +375,8 @@ HasNoFault-inflow r true is none =
     (IsFaultless-without_attribute 4 r 17 is.rising none))
 HasNoFault-inflow r false is none = λ code a e.
     by_code (λ q. (a : Attribute) → flowed r q (attribute_at r q) ≡ Some a → attr_fault 4 q a.flags a.value ≡ None)
-    (valued_fault 4 2 (path_with (used_path r)) (attribute_at r 2) (path_fault r is none))
-    (valued_fault 4 7 (aggregator_with (used_aggregator r)) (attribute_at r 7) (aggregator_fault r none))
+    (valued_fault 4 2 (path_with (used_path (four_of r))) (attribute_at r 2) (path_fault r is none))
+    (valued_fault 4 7 (aggregator_with (used_aggregator (four_of r))) (attribute_at r 7) (aggregator_fault r none))
     (λ a no. absurd (cc no))
     (λ a no. absurd (cc no))
     (λ q f2 f7 f17 f18 a e.
@@ -395,7 +398,7 @@ HasMandatory-inflow r true is there =
 HasMandatory-inflow r false is there = record {
   origin = ap is_some (at-inflow r ORIGIN is.rising) ∙ there.origin;
   path = ap is_some (at-inflow r AS_PATH is.rising)
-      ∙ is_some-valued (path_with (used_path r)) (attribute_at r 2) there.path;
+      ∙ is_some-valued (path_with (used_path (four_of r))) (attribute_at r 2) there.path;
   next_hop = ap is_some (at-inflow r NEXT_HOP is.rising) ∙ there.next_hop;
 }
 

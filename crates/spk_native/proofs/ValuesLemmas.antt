@@ -1,44 +1,21 @@
--- What is read of a route: the value that a view copies, and the AS_PATH of a route without faults.
-use Rattle.std.proofs.Common.{◌≡◌, refl, sym, ap, ◌∙◌, ℕ, ◌≤◌, Bool, true, false, List, [], length, Option, Some, None}
-use Rattle.std.proofs.Common.{IfNone, not, ◌&&◌, ◌==◌, unwrap_or, arith}
+-- What is read of a route: the value that a view lends, and the AS_PATH of a route without faults.
+use Rattle.std.proofs.Common.{◌≡◌, refl, sym, ap, ◌∙◌, ℕ, Bool, true, false, List, [], Option, Some, None}
+use Rattle.std.proofs.Common.{Bor, not, ◌&&◌, ◌==◌, unwrap_or}
 use Rattle.std.specs.Option.{option_map}
-use Rattle.std.proofs.lemmas.Bool.{le-ltb}
 use Rattle.xb_words.specs.Cut.{cut}
-use Rattle.bgp_attr.specs.declared.TheConstants.{MAX_CANONICAL}
 use Rattle.bgp_attr.specs.declared.codes.TheConstants.{AS_PATH}
 use Rattle.bgp_attr.specs.declared.flags.TheConstants.{WELL_KNOWN}
 use Rattle.bgp_attr.specs.declared.rule.AttrFault.TheVariants.{Path}
-use Rattle.bgp_attr.specs.Routes.{Attribute, Route, attribute_at, IsRoute, kept_flags}
+use Rattle.bgp_attr.specs.Routes.{Attribute, Route, attribute_at, kept_flags}
 use Rattle.bgp_attr.specs.Rules.{attr_fault, fault_if, row_fault}
 use Rattle.bgp_attr.specs.Paths.{path, path_ok, contains}
-use Rattle.xbgp_view.specs.Views.{length_that_fits}
-use Rattle.xbgp_view.proofs.ViewsLemmas.{IsEntry-attribute_at}
 use Rattle.spk_native.specs.Values.{HasNoFault, value_at, path_of}
 use Rattle.spk_native.specs.Filters.{has_as}
 
--- in a slice of `MAX_CANONICAL` octets each value of a route fits
-pub length_that_fits-route : (r : Route) (code room : ℕ) (a : Attribute) → IsRoute r → room ≡ MAX_CANONICAL
-    → attribute_at r code ≡ Some a → length_that_fits (Some a) room ≡ Some (length a.value)
-length_that_fits-route r code room a is size e =
-    let short : length a.value ≤ room = omega (arith, (IsEntry-attribute_at r code a is.entries e).1, is.short, size) in
-    rw (le-ltb room (length a.value) short) refl
-
--- so nothing is copied only if the attribute is absent
-absent_at : (r : Route) (code room : ℕ) → IsRoute r → room ≡ MAX_CANONICAL
-    → None ≡ length_that_fits (attribute_at r code) room → value_at r code ≡ None
-absent_at r code room is size e =
-    elim (attribute_at r code) as (λ o. attribute_at r code ≡ o → None ≡ length_that_fits o room
-    → option_map (λ (a : Attribute). a.value) o ≡ None) [
-      | None ↦ λ _ _. refl
-      | Some a ↦ λ found none.
-          let there = none ∙ length_that_fits-route r code room a is size found in
-          absurd (cc there)
-    ] refl e
-
-pub value_at-absent : (r : Route) (code room : ℕ) (o : Option ℕ) → IsRoute r → room ≡ MAX_CANONICAL
-    → o ≡ length_that_fits (attribute_at r code) room → IfNone o (value_at r code ≡ None)
-value_at-absent r code room None is size e = absent_at r code room is size e
-value_at-absent r code room (Some n) is size e = tt
+-- if no value is lent, the route has none
+pub none-lent : (o : Option (Bor (List ℕ))) (x : Option (List ℕ)) → option_map (λ v. v.now) o ≡ x → o ≡ None
+    → x ≡ None
+none-lent o x e none = sym e ∙ ap (λ (l : Option (Bor (List ℕ))). option_map (λ v. v.now) l) none
 
 -- a route without AS_PATH has no segments
 pub path_of-absent : (r : Route) → value_at r AS_PATH ≡ None → path_of r ≡ []

@@ -29,7 +29,7 @@ use Rattle.bgp_path.proofs.UnitsLemmas.{first_units-zero}
 use Rattle.spk_native.specs.Receipt.{wide_aggregator, narrow_aggregator, is_good_path, is_good_aggregator, good}
 use Rattle.spk_native.specs.Receipt.{good_path, good_aggregator, aggregated_since, path_with, aggregator_with, inflow}
 use Rattle.spk_native.specs.Receipt.{is_wide_path, is_wide_aggregator, narrow, without_narrow}
-use Rattle.spk_native.specs.Rebuilds.{set_if, valued, or_other, beside, wide_four}
+use Rattle.spk_native.specs.Rebuilds.{four_of, set_if, valued, or_other, beside, wide_four}
 use Rattle.spk_native.specs.Values.{HasNoFault}
 use Rattle.spk_native.proofs.FormedLemmas.{IsFormed}
 use Rattle.spk_native.proofs.NarrowLemmas.{length-narrow_numbers}
@@ -304,7 +304,8 @@ at-narrow r code = ap (λ s. attribute_at s code) (narrow-set_four r) ∙ at-set
 
 -- what a narrow route has for the four codes, if it is received
 received : (r : Route) → IsPlain r
-    → ((wide_four (narrow r)).path ≡ attribute_at r 2) × ((wide_four (narrow r)).aggregator ≡ attribute_at r 7)
+    → ((wide_four (four_of (narrow r))).path ≡ attribute_at r 2)
+    × ((wide_four (four_of (narrow r))).aggregator ≡ attribute_at r 7)
 received r is =
     let n = narrow r in
     let o2 = attribute_at r 2 in
@@ -335,7 +336,7 @@ received r is =
 pub inflow-narrow : (r : Route) → IsPlain r → inflow (narrow r) false ≡ r
 inflow-narrow r is =
     let n = narrow r in
-    let f = wide_four n in
+    let f = wide_four (four_of n) in
     let g = narrow_set r in
     let both = received r is in
     let n2 = set_if 2 f.path n in

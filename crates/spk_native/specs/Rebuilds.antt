@@ -8,7 +8,8 @@ use Rattle.bgp_attr.specs.Routes.{Route, Attribute, attribute_at, with_attribute
 use Rattle.bgp_path.specs.Widths.{narrow_path}
 use Rattle.spk_native.specs.declared.four.Four.{Four}
 use Rattle.spk_native.specs.Receipt.{narrow_aggregator, is_wide_path, is_wide_aggregator}
-use Rattle.spk_native.specs.Receipt.{aggregated_since, good_path, good_aggregator, path_with, aggregator_with}
+use Rattle.spk_native.specs.Receipt.{aggregated_since, good, is_good_path, is_good_aggregator, path_with}
+use Rattle.spk_native.specs.Receipt.{aggregator_with}
 
 -- the octets of an attribute in a canonical section, header included
 abbrev pub size_of : Attribute → ℕ
@@ -62,27 +63,30 @@ abbrev pub beside : (List ℕ → Bool) → Option Attribute → Option Attribut
 beside test None = None
 beside test (Some a) = if test a.value then Some (record { flags = OPTIONAL_TRANSITIVE; value = a.value }) else None
 
--- what a route has for the four codes in a session with AS numbers of two octets
-abbrev pub narrow_four : Route → Four
-narrow_four r = record {
-  path = valued narrow_path (attribute_at r AS_PATH);
-  aggregator = valued narrow_aggregator (attribute_at r AGGREGATOR);
-  path4 = or_other (beside is_wide_path (attribute_at r AS_PATH)) (attribute_at r AS4_PATH);
-  aggregator4 = or_other (beside is_wide_aggregator (attribute_at r AGGREGATOR)) (attribute_at r AS4_AGGREGATOR);
+-- what becomes of the four attributes in a session with AS numbers of two octets
+abbrev pub narrow_four : Four → Four
+narrow_four f = record {
+  path = valued narrow_path f.path;
+  aggregator = valued narrow_aggregator f.aggregator;
+  path4 = or_other (beside is_wide_path f.path) f.path4;
+  aggregator4 = or_other (beside is_wide_aggregator f.aggregator) f.aggregator4;
 }
 
 -- the AS4_PATH and the AS4_AGGREGATOR that count (RFC 6793, section 4.2.3)
-abbrev pub used_path : Route → Option (List ℕ)
-used_path r = if aggregated_since (attribute_at r AGGREGATOR) (good_aggregator r) then None else good_path r
+abbrev pub used_path : Four → Option (List ℕ)
+used_path f =
+    if aggregated_since f.aggregator (good is_good_aggregator f.aggregator4) then None else good is_good_path f.path4
 
-abbrev pub used_aggregator : Route → Option (List ℕ)
-used_aggregator r = if aggregated_since (attribute_at r AGGREGATOR) (good_aggregator r) then None else good_aggregator r
+abbrev pub used_aggregator : Four → Option (List ℕ)
+used_aggregator f =
+    if aggregated_since f.aggregator (good is_good_aggregator f.aggregator4) then None
+    else good is_good_aggregator f.aggregator4
 
--- what a route that was received in two octets has for the four codes
-abbrev pub wide_four : Route → Four
-wide_four r = record {
-  path = valued (path_with (used_path r)) (attribute_at r AS_PATH);
-  aggregator = valued (aggregator_with (used_aggregator r)) (attribute_at r AGGREGATOR);
+-- what becomes of the four attributes of a route that was received in two octets
+abbrev pub wide_four : Four → Four
+wide_four f = record {
+  path = valued (path_with (used_path f)) f.path;
+  aggregator = valued (aggregator_with (used_aggregator f)) f.aggregator;
   path4 = None;
   aggregator4 = None;
 }

@@ -2,13 +2,12 @@
 ghost use Rattle.std.specs.Prelude.{◌≡◌, ◌<◌, ◌≤◌, [], ◌∷◌, length, position, slice_index_or};
 ghost use Rattle.bgp_attr.specs.Paths.{hops as path_hops, leftmost as path_leftmost, path_ok};
 ghost use Rattle.bgp_attr.specs.Routes.{as_width};
-ghost use Rattle.spk_native.specs.Values.{HasNoFault, path_of, value_or_none};
+ghost use Rattle.spk_native.specs.Values.{HasNoFault, path_of};
 ghost use Rattle.spk_native.specs.Decision.{rank, is_better, is_beaten as beaten, unbeaten, left_of, survivors};
 ghost use Rattle.spk_native.specs.Decision.{survivor as survivor_in};
 ghost use Rattle.spk_native.specs.Laws.{AreApart};
 
-use crate::values::{first_octet_at, number_at, read_value};
-use bgp_attr::MAX_CANONICAL;
+use crate::values::{first_octet_at, number_at, value_at};
 use bgp_attr::codes::{AS_PATH, LOCAL_PREF, MULTI_EXIT_DISC, ORIGIN};
 use bgp_path::Segments;
 use xb_domain::Side;
@@ -63,17 +62,15 @@ const KEYS: [Key; 8] = [
 ];
 
 // The length of a route's AS_PATH, and its first AS number if a sequence leads.
-fn path_keys<R: RouteView>(route: &R, room: &mut [u8]) -> (u32, Option<u32>)
-    requires room { length room.old ≡ MAX_CANONICAL }
-    requires sound { HasNoFault (R.route route.now) }
+fn path_keys<R: RouteView>(route: &R) -> (u32, Option<u32>)
+    requires { HasNoFault (R.route route.now) }
     ensures hops { result.0 ≡ path_hops (path_of (R.route route.now)) }
     ensures leftmost { result.1 ≡ path_leftmost (path_of (R.route route.now)) }
-    ensures room { length room.new ≡ MAX_CANONICAL }
 {
-    let Some(len) = read_value(route, AS_PATH, room) else {
+    let Some(value) = value_at(route, AS_PATH) else {
         return (0, None);
     };
-    match Segments::wide(&room[..len]) {
+    match Segments::wide(value) {
         Some(path) => (path.hops(), path.leftmost()),
         None => (0, None),
     }
@@ -86,11 +83,10 @@ pub fn rank_of<R: RouteView>(route: &R, side: &Side, local_pref: u32, cost: u32)
     requires { HasNoFault (R.route route.now) }
     ensures { result ≡ rank (R.route route.now) side.now local_pref cost }
 {
-    let mut room = [0u8; MAX_CANONICAL];
-    let (hops, leftmost) = path_keys(route, &mut room);
-    let origin = first_octet_at(route, ORIGIN, &mut room);
-    let degree = number_at(route, LOCAL_PREF, &mut room);
-    let med = number_at(route, MULTI_EXIT_DISC, &mut room);
+    let (hops, leftmost) = path_keys(route);
+    let origin = first_octet_at(route, ORIGIN);
+    let degree = number_at(route, LOCAL_PREF);
+    let med = number_at(route, MULTI_EXIT_DISC);
     Rank {
         degree: degree.unwrap_or(local_pref),
         hops,

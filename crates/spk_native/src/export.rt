@@ -1,17 +1,17 @@
 // What a peer is sent of a route.
-ghost use Rattle.std.specs.Prelude.{◌≡◌, ◌+◌, ◌≤◌, ◌++◌, List, ℕ, length, map, true};
+ghost use Rattle.std.specs.Prelude.{◌≡◌, ◌+◌, ◌≤◌, ◌++◌, List, ℕ, IfSome, length, map, true, false};
 ghost use Rattle.bgp_attr.specs.Paths.{path_octets, prepend};
 ghost use Rattle.bgp_attr.specs.Routes.{as_width, attribute_at, canon, with_attribute, IsRoute};
 ghost use Rattle.bgp_attr.specs.Rules.{is_known as is_of_row};
 ghost use Rattle.xbgp_view.specs.Sections.{entry_of};
-ghost use Rattle.spk_native.specs.Export.{is_of_narrow as is_of_two, is_passed_on as is_sent};
+ghost use Rattle.spk_native.specs.Export.{is_of_narrow as is_of_two, is_passed_on as is_sent, is_transitive};
 ghost use Rattle.spk_native.specs.Export.{carry, marked_partial, to_external, to_internal};
 ghost use Rattle.spk_native.specs.Export.{native_section as section_of};
 ghost use Rattle.spk_native.specs.Values.{has_sound, path_of};
 ghost use Rattle.spk_native.specs.Marks.{marked_at};
 
 use crate::filters::EXTERNAL;
-use crate::four::copy_out;
+use crate::four::{USUAL, copied};
 use bgp_attr::MAX_CANONICAL;
 use bgp_attr::codes::{
     AGGREGATOR, AS_PATH, AS4_AGGREGATOR, AS4_PATH, LOCAL_PREF, MULTI_EXIT_DISC, NEXT_HOP, ORIGIN,
@@ -48,23 +48,20 @@ fn is_passed_on(code: u8, flags: u8) -> bool
 }
 
 // Appends the attribute of a code, if the route has it and a peer is sent it.
-fn append_passed_on(route: &Overlay, code: u8, value: &mut [u8], out: &mut Buf)
-    requires value { length value.old ≡ MAX_CANONICAL }
-    requires room { length out.old.octets + length (section_of (entry_of code (attribute_at route.now.route code)))
+fn append_passed_on(route: &Overlay, code: u8, out: &mut Buf)
+    requires { length out.old.octets + length (section_of (entry_of code (attribute_at route.now.route code)))
         ≤ out.old.capacity }
-    ensures appended { out.new ≡ record out.old {
+    ensures { out.new ≡ record out.old {
       octets = out.old.octets ++ section_of (entry_of code (attribute_at route.now.route code));
     } }
-    ensures len { length value.new ≡ MAX_CANONICAL }
 {
-    let Some((flags, len)) = route.flags_len(code) else {
+    let Some(held) = route.attribute(code) else {
         return;
     };
-    if !is_passed_on(code, flags) {
-        return;
+    let flags = held.flags();
+    if is_passed_on(code, flags) {
+        append_attribute(out, code, flags, held.value());
     }
-    let _ = route.copy(code, value);
-    append_attribute(out, code, flags, &value[..len]);
 }
 
 /// Replaces the content of `out` by the canonical section of what a peer is sent of the route.
@@ -72,13 +69,27 @@ pub fn native_section(route: &Overlay, out: &mut Buf)
     requires { MAX_CANONICAL ≤ out.old.capacity }
     ensures { out.new ≡ record out.old { octets = section_of route.now.route } }
 {
-    let mut value = [0u8; MAX_CANONICAL];
     let mut from = 0u16;
     out.clear();
     'codes: while let Some(code) = route.code_from(from) {
-        append_passed_on(route, code, &mut value, out);
+        append_passed_on(route, code, out);
         from = u16::from(code) + 1;
     }
+}
+
+// Marks an attribute that is not recognized and is passed on as partial, if the route has it.
+fn mark_partial(route: &mut Overlay, code: u8)
+    requires unknown { is_of_row code ≡ false }
+    requires transitive { IfSome (attribute_at route.old.route code) (λ a. is_transitive a.flags ≡ true) }
+    ensures { route.new ≡ record route.old { route = marked_at code route.old.route } }
+{
+    let Some(held) = route.attribute(code) else {
+        return;
+    };
+    let flags = held.flags();
+    let mut octets = [0u8; MAX_CANONICAL];
+    let value = copied(held.value(), &mut octets);
+    let _ = route.set(code, flags | PARTIAL, value, MAX_CANONICAL);
 }
 
 // Marks the attribute of a code as partial, if the route has it, it is not recognized and it is passed on.
@@ -88,12 +99,11 @@ fn mark(route: &mut Overlay, code: u8)
     if is_known(code) {
         return;
     }
-    let Some(held) = copy_out(route, code) else {
+    let Some((flags, _)) = route.flags_len(code) else {
         return;
     };
-    let flags = held.flags();
     if flags & TRANSITIVE != 0 {
-        let _ = route.set(code, flags | PARTIAL, held.value(), MAX_CANONICAL);
+        mark_partial(route, code);
     }
 }
 
@@ -101,11 +111,65 @@ fn mark(route: &mut Overlay, code: u8)
 fn mark_all(route: &mut Overlay)
     ensures { route.new ≡ record route.old { route = map marked_partial route.old.route } }
 {
-    let mut from = 0u16;
+    // The codes between are recognized.
+    mark(route, 0);
+    let mut from = u16::from(AGGREGATOR) + 1;
     'codes: while let Some(code) = route.code_from(from) {
         mark(route, code);
         from = u16::from(code) + 1;
     }
+}
+
+// Prepends an AS number to the AS_PATH, by way of `octets`.
+fn prepend_within(route: &mut Overlay, asn: u32, octets: &mut [u8])
+    requires short { length (canon route.old.route) ≤ MAX_MESSAGE }
+    requires path { has_sound route.old.route AS_PATH ≡ true }
+    requires room { length (canon route.old.route) + MAX_ADDED ≤ length octets.old }
+    ensures shape { IsRoute route.old.route }
+    ensures after { route.new ≡ record route.old {
+      route = with_attribute route.old.route AS_PATH WELL_KNOWN
+          (path_octets as_width (prepend asn (path_of route.old.route)));
+    } }
+    ensures bound { length (canon route.new.route) ≤ length (canon route.old.route) + MAX_ADDED }
+{
+    let Some(held) = route.attribute(AS_PATH) else {
+        return;
+    };
+    let Some(path) = Segments::wide(held.value()) else {
+        return;
+    };
+    let len = path.prepend_into(asn, octets).unwrap_or(0);
+    let _ = route.set(AS_PATH, WELL_KNOWN, &octets[..len], MAX_CANONICAL);
+}
+
+// Prepends an AS number to the AS_PATH of a route with a short section.
+fn prepend_short(route: &mut Overlay, asn: u32)
+    requires path { has_sound route.old.route AS_PATH ≡ true }
+    requires room { length (canon route.old.route) + MAX_ADDED ≤ USUAL }
+    ensures shape { IsRoute route.old.route }
+    ensures after { route.new ≡ record route.old {
+      route = with_attribute route.old.route AS_PATH WELL_KNOWN
+          (path_octets as_width (prepend asn (path_of route.old.route)));
+    } }
+    ensures bound { length (canon route.new.route) ≤ length (canon route.old.route) + MAX_ADDED }
+{
+    let mut octets = [0u8; USUAL];
+    prepend_within(route, asn, &mut octets);
+}
+
+// Prepends an AS number to the AS_PATH of a route with a section of any length.
+fn prepend_long(route: &mut Overlay, asn: u32)
+    requires short { length (canon route.old.route) ≤ MAX_MESSAGE }
+    requires path { has_sound route.old.route AS_PATH ≡ true }
+    ensures shape { IsRoute route.old.route }
+    ensures after { route.new ≡ record route.old {
+      route = with_attribute route.old.route AS_PATH WELL_KNOWN
+          (path_octets as_width (prepend asn (path_of route.old.route)));
+    } }
+    ensures bound { length (canon route.new.route) ≤ length (canon route.old.route) + MAX_ADDED }
+{
+    let mut octets = [0u8; MAX_CANONICAL];
+    prepend_within(route, asn, &mut octets);
 }
 
 // Prepends an AS number to the AS_PATH, for which there is room.
@@ -119,15 +183,11 @@ fn prepend_number(route: &mut Overlay, asn: u32)
     } }
     ensures bound { length (canon route.new.route) ≤ length (canon route.old.route) + MAX_ADDED }
 {
-    let Some(held) = copy_out(route, AS_PATH) else {
-        return;
-    };
-    let Some(path) = Segments::wide(held.value()) else {
-        return;
-    };
-    let mut octets = [0u8; MAX_CANONICAL];
-    let len = path.prepend_into(asn, &mut octets).unwrap_or(0);
-    let _ = route.set(AS_PATH, WELL_KNOWN, &octets[..len], MAX_CANONICAL);
+    if route.section_len() + MAX_ADDED <= USUAL {
+        prepend_short(route, asn);
+    } else {
+        prepend_long(route, asn);
+    }
 }
 
 // Makes a route what an external peer is sent.

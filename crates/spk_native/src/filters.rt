@@ -1,10 +1,9 @@
 // What is accepted from a peer and for a peer when no program answers.
-ghost use Rattle.std.specs.Prelude.{◌≡◌, length};
+ghost use Rattle.std.specs.Prelude.{◌≡◌};
 ghost use Rattle.spk_native.specs.Filters.{accepts_inbound, accepts_outbound, has_as, is_next_hop};
 ghost use Rattle.spk_native.specs.Filters.{is_internal as internal};
 
-use crate::values::{number_at, read_value};
-use bgp_attr::MAX_CANONICAL;
+use crate::values::{number_at, value_at};
 use bgp_attr::codes::{AS_PATH, NEXT_HOP};
 use bgp_path::Segments;
 use xb_domain::Side;
@@ -17,26 +16,23 @@ pub const EXTERNAL: u8 = 1;
 pub const INTERNAL: u8 = 2;
 
 // Whether an AS is in the AS_PATH of a route.
-fn path_has<R: RouteView>(route: &R, asn: u32, room: &mut [u8]) -> bool
-    requires { length room.old ≡ MAX_CANONICAL }
+fn path_has<R: RouteView>(route: &R, asn: u32) -> bool
     ensures { result ≡ has_as asn (R.route route.now) }
 {
-    let Some(len) = read_value(route, AS_PATH, room) else {
+    let Some(value) = value_at(route, AS_PATH) else {
         return false;
     };
-    let Some(path) = Segments::wide(&room[..len]) else {
+    let Some(path) = Segments::wide(value) else {
         return false;
     };
     path.contains(asn)
 }
 
 // Whether the NEXT_HOP of a route is an address.
-fn next_hop_is<R: RouteView>(route: &R, address: u32, room: &mut [u8]) -> bool
-    requires { length room.old ≡ MAX_CANONICAL }
-    ensures hop { result ≡ is_next_hop address (R.route route.now) }
-    ensures room { length room.new ≡ MAX_CANONICAL }
+fn next_hop_is<R: RouteView>(route: &R, address: u32) -> bool
+    ensures { result ≡ is_next_hop address (R.route route.now) }
 {
-    match number_at(route, NEXT_HOP, room) {
+    match number_at(route, NEXT_HOP) {
         Some(hop) => hop == address,
         None => false,
     }
@@ -47,11 +43,10 @@ fn next_hop_is<R: RouteView>(route: &R, address: u32, room: &mut [u8]) -> bool
 pub fn inbound_native<R: RouteView>(route: &R, local: &Side) -> bool
     ensures { result ≡ accepts_inbound (R.route route.now) local.now }
 {
-    let mut room = [0u8; MAX_CANONICAL];
-    if next_hop_is(route, local.address, &mut room) {
+    if next_hop_is(route, local.address) {
         return false;
     }
-    !path_has(route, local.asn, &mut room)
+    !path_has(route, local.asn)
 }
 
 fn is_internal(side: &Side) -> bool

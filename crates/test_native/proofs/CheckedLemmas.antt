@@ -1,11 +1,11 @@
--- A section that was checked has sound mandatory attributes.
+-- A section that was checked has no fault, and sound mandatory attributes.
 use Rattle.std.proofs.Common.{◌≡◌, ◌∙◌, refl, sym, true, false, List, ℕ, Option, Some, None, is_some}
 use Rattle.std.specs.Option.{option_map}
 use Rattle.xb_wire.specs.Messages.{Notification}
 use Rattle.bgp_attr.specs.declared.codes.TheConstants.{ORIGIN, AS_PATH, NEXT_HOP}
 use Rattle.bgp_attr.specs.Routes.{Route, route_of}
 use Rattle.bgp_check.specs.Judgement.{judge_section}
-use Rattle.spk_native.specs.Values.{has_sound}
+use Rattle.spk_native.specs.Values.{has_sound, IsFaultless}
 use Rattle.spk_native.proofs.SoundLemmas.{HasMandatory-route_of, IsFaultless-route_of, has_sound-HasNoFault}
 
 pub record HasSound (r : Route) : Type 0 where
@@ -16,6 +16,10 @@ pub record HasSound (r : Route) : Type 0 where
 no_notice : {A : Type 0} (view : A → Notification) (o : Option A) → is_some o ≡ false → option_map view o ≡ None
 no_notice view None e = refl
 no_notice view (Some n) e = absurd (cc e)
+
+pub IsFaultless-checked : {A : Type 0} (w : ℕ) (s : List ℕ) (view : A → Notification) (o : Option A) → is_some o ≡ false
+    → option_map view o ≡ judge_section w s true → IsFaultless w (route_of s)
+IsFaultless-checked w s view o none judged = IsFaultless-route_of w s true (sym judged ∙ no_notice view o none)
 
 pub has_sound-checked : {A : Type 0} (s : List ℕ) (view : A → Notification) (o : Option A) → is_some o ≡ false
     → option_map view o ≡ judge_section 4 s true → HasSound (route_of s)

@@ -1,6 +1,6 @@
 ghost use Rattle.std.specs.Prelude.{◌≡◌};
 
-use crate::{best_of_three, best_of_two, is_accepted, sent_on};
+use crate::{best_of_three, best_of_two, is_accepted, narrowed, sent_on, widened};
 use bgp_attr::MAX_CANONICAL;
 use spk_native::{EXTERNAL, INTERNAL, Rank, outbound_native};
 use std::test::Fail;
@@ -91,6 +91,65 @@ fn a_route_is_sent_on(rt: HostRuntime) -> Result<(), Fail> {
             &mut out
         )
     );
+    Ok(())
+}
+
+// ORIGIN IGP, an AS_PATH with AS_TRANS, NEXT_HOP 192.0.2.1, an AS4_PATH with AS 200000
+const NARROW: [u8; 29] = [
+    0x40, 1, 1, 0, 0x40, 2, 6, 2, 2, 0xfd, 0xe9, 0x5b, 0xa0, 0x40, 3, 4, 0xc0, 0, 2, 1, 0xc0, 17,
+    6, 2, 1, 0, 3, 0x0d, 0x40,
+];
+
+// the same with AS numbers of four octets: the AS number before those of the AS4_PATH is a segment of its own
+const WIDE: [u8; 26] = [
+    0x40, 1, 1, 0, 0x40, 2, 12, 2, 1, 0, 0, 0xfd, 0xe9, 2, 1, 0, 3, 0x0d, 0x40, 0x40, 3, 4, 0xc0,
+    0, 2, 1,
+];
+
+// that for a session with AS numbers of two octets: the AS4_PATH has the whole AS_PATH
+const NARROW_AGAIN: [u8; 37] = [
+    0x40, 1, 1, 0, 0x40, 2, 8, 2, 1, 0xfd, 0xe9, 2, 1, 0x5b, 0xa0, 0x40, 3, 4, 0xc0, 0, 2, 1, 0xc0,
+    17, 12, 2, 1, 0, 0, 0xfd, 0xe9, 2, 1, 0, 3, 0x0d, 0x40,
+];
+
+#[test]
+fn a_route_takes_the_form_of_a_session(rt: HostRuntime) -> Result<(), Fail> {
+    let mut overlay = Overlay::make(rt.alloc())?;
+    let mut out = Buf::make(rt.alloc(), MAX_CANONICAL)?;
+    assert!(rt; widened(&NARROW, &mut overlay, &mut out));
+    assert_eq!(rt; out.as_slice(), WIDE.as_slice());
+    out.clear();
+    assert!(rt; narrowed(&WIDE, &mut overlay, &mut out));
+    assert_eq!(rt; out.as_slice(), NARROW_AGAIN.as_slice());
+    Ok(())
+}
+
+// what comes before and after 100 AS numbers of two octets each, and of four
+const FRONT: [u8; 9] = [0x40, 1, 1, 0, 0x40, 2, 202, 2, 100];
+
+const FRONT_WIDE: [u8; 10] = [0x40, 1, 1, 0, 0x50, 2, 1, 0x92, 2, 100];
+
+const BACK: [u8; 7] = [0x40, 3, 4, 0xc0, 0, 2, 1];
+
+#[test]
+fn a_long_route_takes_the_form_of_a_session(rt: HostRuntime) -> Result<(), Fail> {
+    let mut overlay = Overlay::make(rt.alloc())?;
+    let mut out = Buf::make(rt.alloc(), MAX_CANONICAL)?;
+    let mut narrow = [1u8; 216];
+    narrow[..9].copy_from_slice(&FRONT);
+    narrow[209..].copy_from_slice(&BACK);
+    let mut wide = [0u8; 417];
+    wide[..10].copy_from_slice(&FRONT_WIDE);
+    for i in 0..100usize {
+        wide[12 + 4 * i] = 1;
+        wide[13 + 4 * i] = 1;
+    }
+    wide[410..].copy_from_slice(&BACK);
+    assert!(rt; widened(&narrow, &mut overlay, &mut out));
+    assert_eq!(rt; out.as_slice(), wide.as_slice());
+    out.clear();
+    assert!(rt; narrowed(&wide, &mut overlay, &mut out));
+    assert_eq!(rt; out.as_slice(), narrow.as_slice());
     Ok(())
 }
 

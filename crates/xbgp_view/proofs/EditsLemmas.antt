@@ -1,6 +1,6 @@
 -- An edited route is a route.
-use Rattle.std.proofs.Common.{◌≡◌, inl, inr, refl, sym, ap, subst, ◌∙◌, ℕ, ◌<◌, ◌≤◌, List, [], ◌∷◌, ◌++◌, length, take, drop}
-use Rattle.std.proofs.Common.{arith, ◌+◌, ◌-◌, true, false, is_some, nat_lt, suc}
+use Rattle.std.proofs.Common.{◌≡◌, inl, inr, refl, sym, ap, subst, ◌∙◌, ℕ, ◌<◌, ◌≤◌, List, [], ◌∷◌, ◌++◌, length, take}
+use Rattle.std.proofs.Common.{drop, arith, ◌+◌, ◌-◌, true, false, is_some, nat_lt, suc}
 use Rattle.std.specs.Prelude.{slice_index, ◌==◌, not}
 use Rattle.std.specs.List.{AllByRecursion}
 use Rattle.std.specs.List.Sorted.{IsStrictlySortedBy}
@@ -167,7 +167,8 @@ canonical_some e = elim (cases_Bool (nat_lt 255 (length e.1.value))) [
   | inr short ↦ rw short (omega arith)
 ]
 
-front_there : (code : ℕ) (r : Route) → is_some (front code r) ≡ true → length (canon (past_code code r)) < length (canon r)
+front_there : (code : ℕ) (r : Route) → is_some (front code r) ≡ true
+    → length (canon (past_code code r)) < length (canon r)
 front_there code [] e = absurd (cc e)
 front_there code (x ∷ r) e = elim (cases_Bool (x.0 == code)) [
   | inl here ↦ rw here (omega (arith, length-append (canonical x) (canon r), canonical_some x))

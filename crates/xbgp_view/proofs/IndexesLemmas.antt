@@ -117,7 +117,8 @@ unfolding walk_from
 walked_route-all s = walked 0 (cut attribute_size s).items (cut attribute_size s).rest []
 
 -- steps without an attribute leave a route as it is
-pub walked_route-end : (r : Route) (steps : List (Result FoundAttr Overrun)) → entries_of steps ≡ [] → walked_route r steps ≡ r
+pub walked_route-end : (r : Route) (steps : List (Result FoundAttr Overrun)) → entries_of steps ≡ []
+    → walked_route r steps ≡ r
 walked_route-end r [] none = refl
 walked_route-end r (Ok a ∷ steps) none = absurd (cc none)
 walked_route-end r (Err o ∷ steps) none = refl

@@ -29,7 +29,8 @@ add_last (e ∷ r) code a below =
     rw greater (ap (λ (l : Route). e ∷ l) (add_last r code a below.1))
 
 -- an entry below a code may follow entries below it
-pub below_more : (r : Route) (code : ℕ) (e : ℕ × Attribute) → Below code r → nat_cmp e.0 code ≡ Less → Below code (r ++ e ∷ [])
+pub below_more : (r : Route) (code : ℕ) (e : ℕ × Attribute) → Below code r → nat_cmp e.0 code ≡ Less
+    → Below code (r ++ e ∷ [])
 below_more [] code e below less = (less, tt)
 below_more (x ∷ r) code e below less = (below.0, below_more r code e below.1 less)
 

@@ -1,7 +1,8 @@
 use Rattle.std.proofs.Common.{◌∙◌, ap, sym}
-use Rattle.spk_native.specs.Export.{is_transitive}
-use Rattle.spk_native.proofs.MarksLemmas.{marked_at-known, marked_at-none, marked_at-left, IsMarkSet-some}
-use Rattle.spk_native.proofs.MarksLemmas.{is_transitive-set, is_transitive-unset}
+use Rattle.bgp_attr.specs.Routes.{attribute_at}
+use Rattle.xbgp_view.proofs.ViewsLemmas.{flags_and_length-some, value_in}
+use Rattle.spk_native.proofs.MarksLemmas.{marked_at-known, marked_at-none, marked_at-left, attribute_at-no_flags}
+use Rattle.spk_native.proofs.MarksLemmas.{is_transitive-unset}
 use Rattle.spk_native.proofs.export.mark.Goals as goal
 
 pub returns-then-is_known : goal.returns-then-is_known
@@ -11,21 +12,16 @@ returns-then-is_known c =
 
 pub returns-in_default : goal.returns-in_default
 returns-in_default c =
-    ap (λ r. record { route = r; kept = c.args.route.now.kept })
-    (sym (marked_at-none c.args.code c.args.route.now.route c.copy_out.ensures.shape.rising
-    (sym (sym c.in_default.is ∙ c.copy_out.ensures.value))))
-
-pub returns-then-flags-ne0 : goal.returns-then-flags-ne0
-returns-then-flags-ne0 c =
-    let set = IsMarkSet-some c.args.route.now.route c.args.code c.flags-flags.result c.value.result.now c.in-Some.held
-    c.copy_out.ensures.shape c.in-Some.ensures.value c.flags-flags.ensures c.value.ensures.value
-    (sym c.is_known.ensures ∙ c.if-is_known.false) (is_transitive-set c.flags-flags.result c.if-flags-ne0.true) in
-    (rw set.fits at c.set.ensures.after)
-    ∙ ap (λ r. record { route = r; kept = c.args.route.now.kept }) set.same
+    let r = c.args.route.now.route in
+    ap (λ l. record { route = l; kept = c.args.route.now.kept })
+    (sym (marked_at-none c.args.code r c.flags_len.ensures.shape.rising
+    (attribute_at-no_flags r c.args.code (sym c.in_default.is ∙ c.flags_len.ensures.value))))
 
 pub returns-else-flags-ne0 : goal.returns-else-flags-ne0
 returns-else-flags-ne0 c =
-    ap (λ r. record { route = r; kept = c.args.route.now.kept })
-    (sym (marked_at-left c.args.code c.args.route.now.route c.in-Some.held c.copy_out.ensures.shape.rising
-    (sym c.in-Some.ensures.value) (ap is_transitive (sym c.flags-flags.ensures)
-    ∙ is_transitive-unset c.flags-flags.result c.if-flags-ne0.false)))
+    let r = c.args.route.now.route in
+    let o = attribute_at r c.args.code in
+    let told = flags_and_length-some o c.in-Some.flags c.in-Some.field-0-1 c.in-Some.ensures.value in
+    ap (λ l. record { route = l; kept = c.args.route.now.kept })
+    (sym (marked_at-left c.args.code r (record { flags = c.in-Some.flags; value = value_in o })
+    c.flags_len.ensures.shape.rising told.0 (is_transitive-unset c.in-Some.flags c.if-flags-ne0.false)))

@@ -6,14 +6,17 @@ use Rattle.bgp_attr.specs.Routes.{Route}
 use Rattle.xbgp_view.specs.Views.{Edited, code_from}
 use Rattle.xbgp_view.proofs.ViewsLemmas.{IsNext-code_from}
 use Rattle.spk_native.specs.Marks.{marked_at, marked_below}
-use Rattle.spk_native.proofs.MarksLemmas.{marked_below-zero, marked_below-all, keys_of-marked_below}
+use Rattle.spk_native.proofs.MarksLemmas.{marked_below-known, marked_below-all, keys_of-marked_below}
 use Rattle.spk_native.proofs.MarksLemmas.{code_from-marked_below}
 use Rattle.spk_native.proofs.MarksLemmas.{marked_at-marked_below}
 use Rattle.spk_native.proofs.export.mark_all.Goals as goal
 
 pub codes-init : goal.codes-init
 codes-init c = (
-  ap (λ r. record { route = r; kept = c.args.route.now.kept }) (sym (marked_below-zero c.args.route.now.route)),
+  c.mark.ensures
+      ∙ ap (λ r. record { route = r; kept = c.args.route.now.kept })
+      (marked_below-known c.args.route.now.route
+      ∙ ap (λ n. marked_below n c.args.route.now.route) (omega (arith, c.from-from.ensures))),
   omega arith,
 )
 
@@ -22,7 +25,7 @@ codes-smaller c =
     let is = c.in-Some.ensures.shape in
     let next = IsNext-code_from c.codes.route.route c.codes.from c.in-Some.code is.entries is.rising
     c.in-Some.ensures.value in
-    omega (arith, next.past, next.inside, c.from-from.ensures)
+    omega (arith, next.past, next.inside, c.from-from-in-Some.ensures)
 
 pub codes-preserved : goal.codes-preserved
 codes-preserved c =
@@ -37,12 +40,12 @@ codes-preserved c =
     is.rising in
     let found : Some code ≡ code_from r from =
     c.in-Some.ensures.value ∙ ap (λ l. code_from l from) here ∙ code_from-marked_below from r from in (
-      c.mark.ensures
+      c.mark-in-Some.ensures
           ∙ ap (λ (e : Edited). record { route = marked_at code e.route; kept = e.kept }) c.codes.invariant.0
           ∙ ap (λ l. record { route = l; kept = c.args.route.now.kept })
           (marked_at-marked_below r from code rising found
-          ∙ ap (λ n. marked_below (n + 1) r) (sym c.from-from.ensures)),
-      omega (arith, next.inside, c.from-from.ensures),
+          ∙ ap (λ n. marked_below (n + 1) r) (sym c.from-from-in-Some.ensures)),
+      omega (arith, next.inside, c.from-from-in-Some.ensures),
     )
 
 pub returns : goal.returns

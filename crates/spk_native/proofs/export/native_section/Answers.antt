@@ -1,4 +1,4 @@
-use Rattle.std.proofs.Common.{refl, ◌+◌, ◌++◌, ◌∙◌, ap, sym, length, arith}
+use Rattle.std.proofs.Common.{◌+◌, ◌++◌, ◌∙◌, ap, sym, length, arith}
 use Rattle.std.proofs.lemmas.List.{length-append}
 use Rattle.xb_values.specs.Buffers.{Buffer}
 use Rattle.bgp_attr.specs.Routes.{attribute_at}
@@ -13,12 +13,11 @@ codes-init c = (
   c.clear.ensures
       ∙ ap (λ r. record { octets = native_section r; capacity = c.args.out.now.capacity })
       (sym (below_code-zero c.args.route.now.route)),
-  refl,
   omega arith,
 )
 
-pub append_passed_on-requires-clause-room : goal.append_passed_on-requires-clause-room
-append_passed_on-requires-clause-room c =
+pub append_passed_on-requires : goal.append_passed_on-requires
+append_passed_on-requires c =
     let r = c.args.route.now.route in
     let code = c.in-Some.code in
     let is = c.in-Some.ensures.shape in
@@ -50,14 +49,13 @@ codes-preserved c =
     let room = c.args.out.now.capacity in
     let is = c.in-Some.ensures.shape in
     let next = IsNext-code_from r c.codes.from code is.entries is.rising c.in-Some.ensures.value in (
-      c.append_passed_on.ensures.appended
+      c.append_passed_on.ensures
           ∙ ap (λ (b : Buffer). record b {
             octets = b.octets ++ native_section (entry_of code (attribute_at r code));
           }) c.codes.invariant.0
           ∙ ap (λ t. record { octets = t; capacity = room })
           (sym (native_section-next r c.codes.from code next)
           ∙ ap (λ n. native_section (below_code (n + 1) r)) (sym c.from-from.ensures)),
-      c.append_passed_on.ensures.len,
       omega (arith, next.inside, c.from-from.ensures),
     )
 

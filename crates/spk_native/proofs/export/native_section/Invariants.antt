@@ -1,5 +1,4 @@
-use Rattle.std.proofs.Common.{◌≡◌, ◌≤◌, ◌-◌, length}
-use Rattle.bgp_attr.specs.declared.TheConstants.{MAX_CANONICAL}
+use Rattle.std.proofs.Common.{◌≡◌, ◌≤◌, ◌-◌}
 use Rattle.xbgp_view.specs.Sections.{below_code}
 use Rattle.spk_native.specs.Export.{native_section}
 use Rattle.spk_native.proofs.export.native_section.Given as goal
@@ -7,7 +6,7 @@ use Rattle.spk_native.proofs.export.native_section.Given as goal
 abbrev pub invariant-codes : goal.invariant-codes
 invariant-codes l =
     (l.out ≡ record { octets = native_section (below_code l.from l.route.route); capacity = l.fn.out.capacity })
-    × (length l.value ≡ MAX_CANONICAL) × (l.from ≤ 256)
+    × (l.from ≤ 256)
 
 abbrev pub decreases-codes : goal.decreases-codes
 decreases-codes l = 256 - l.from

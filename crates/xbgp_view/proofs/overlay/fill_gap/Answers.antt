@@ -29,7 +29,8 @@ append_attribute-requires-clause-short c =
     omega (
       arith,
       c.requires.fits,
-      length-canon-with_attribute s c.args.value.now c.args.code c.args.flags (g.start, g.end) c.requires.section c.requires.gap,
+      length-canon-with_attribute s c.args.value.now c.args.code c.args.flags (g.start, g.end) c.requires.section
+          c.requires.gap,
       length-value-canonical (c.args.code, record { flags = kept_flags c.args.flags; value = c.args.value.now }),
     )
 
@@ -65,7 +66,9 @@ returns-clause-written c =
     ∙ ap (λ f. record { octets = take g.start s ++ canonical (c.args.code, record { flags = f; value = c.args.value.now }); capacity = room }) c.kept_flags.ensures)
     ∙ ap (λ t. record { octets = (take g.start s ++ x) ++ t; capacity = room }) (take_rest s g.end)
     ∙ ap (λ t. record { octets = t; capacity = room })
-    (append_assoc (take g.start s) x (drop g.end s) ∙ canon-with_attribute s c.args.value.now c.args.code c.args.flags (g.start, g.end) c.requires.section c.requires.gap)
+    (append_assoc (take g.start s) x (drop g.end s)
+    ∙ canon-with_attribute s c.args.value.now c.args.code c.args.flags (g.start, g.end) c.requires.section
+    c.requires.gap)
 
 pub returns-clause-canonical : goal.returns-clause-canonical
 returns-clause-canonical c =

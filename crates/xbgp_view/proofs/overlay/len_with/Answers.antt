@@ -8,4 +8,5 @@ returns c flags =
     let s = c.args.section.now in
     let g = c.args.gap in
     ap (λ n. g.start + (n + (length s - g.end))) (c.spelled_len.ensures.value c.args.code (kept_flags flags))
-    ∙ sym (length-canon-with_attribute s c.args.value.now c.args.code flags (g.start, g.end) c.requires.section c.requires.gap)
+    ∙ sym (length-canon-with_attribute s c.args.value.now c.args.code flags (g.start, g.end) c.requires.section
+    c.requires.gap)

@@ -6,5 +6,6 @@ use Rattle.rib_table.proofs.attrs.AttrListRouteView.attribute.Goals as goal
 pub new-requires : goal.new-requires
 new-requires c =
     let is = subst IsRoute (sym c.deref.ensures.value) c.self.invariant in
-    let short = (IsOfRoute-attribute_at c.deref.result.now c.args.code c.in_ok-node.node.now.1 is c.in_ok-node.ensures).short in
+    let a = c.in_ok-node.node.now.1 in
+    let short = (IsOfRoute-attribute_at c.deref.result.now c.args.code a is c.in_ok-node.ensures).short in
     omega (arith, ap length c.value.ensures, short)

@@ -21,10 +21,15 @@ attrs-preserved c =
     }
 
 pub returns : goal.returns
-returns c = sym (walked_route-end (index_route 0 c.attrs.index) c.attrs.attrs c.in_default.ensures.end) ∙ c.attrs.invariant.route ∙ walked_route-all c.args.section.now
+returns c =
+    sym (walked_route-end (index_route 0 c.attrs.index) c.attrs.attrs c.in_default.ensures.end)
+    ∙ c.attrs.invariant.route
+    ∙ walked_route-all c.args.section.now
 
 pub invariant_of-result : goal.invariant_of-result
 invariant_of-result c =
     subst IsRoute
-    (sym (sym (walked_route-end (index_route 0 c.attrs.index) c.attrs.attrs c.in_default.ensures.end) ∙ c.attrs.invariant.route ∙ walked_route-all c.args.section.now))
+    (sym (sym (walked_route-end (index_route 0 c.attrs.index) c.attrs.attrs c.in_default.ensures.end)
+    ∙ c.attrs.invariant.route
+    ∙ walked_route-all c.args.section.now))
     (IsRoute-route_of c.args.section.now (AreOctets-slice c.args.section.now (λ i. (c.type_inv.section i).fits)) c.requires)

@@ -8,7 +8,7 @@ use Rattle.xbgp_view.specs.Views.{Edited}
 use Rattle.bgp_path.specs.Parts.{prepended}
 use Rattle.spk_native.proofs.NarrowLemmas.{take-written}
 use Rattle.spk_native.proofs.CarryLemmas.{IsPrepended, IsPrepended-read, read-not-none}
-use Rattle.spk_native.proofs.export.prepend_number.Goals as goal
+use Rattle.spk_native.proofs.export.prepend_within.Goals as goal
 
 pub returns-in_default-wide-clause-after : goal.returns-in_default-wide-clause-after
 returns-in_default-wide-clause-after c =
@@ -19,7 +19,7 @@ returns-in_default-wide-clause-after c =
 path : (c : goal.After-set) → IsPrepended c.args.route.now.route c.args.asn c.in-Some-wide.path
 path c =
     IsPrepended-read c.args.route.now.route c.args.asn c.in-Some-wide.path c.in-Some.held c.value.result.now
-    c.copy_out.ensures.shape c.requires.short c.in-Some.ensures.value c.value.ensures.value
+    c.attribute.ensures.shape c.requires.short c.in-Some.ensures.value c.value.ensures.value
     c.in-Some-wide.ensures.whole c.prepend_into.ensures.bound
 
 -- what is set
@@ -27,7 +27,8 @@ text : (c : goal.After-set)
     → take c.unwrap_or-len.result c.prepend_into.new.out ≡ prepended c.in-Some-wide.path c.args.asn
 text c =
     take-written c.prepend_into.result _ c.prepend_into.new.out (prepended c.in-Some-wide.path c.args.asn)
-    c.unwrap_or-len.result MAX_CANONICAL c.prepend_into.ensures.written refl (path c).short c.unwrap_or-len.ensures
+    c.unwrap_or-len.result (length c.args.octets.now) c.prepend_into.ensures.written refl
+    (omega (arith, (path c).short, c.requires.room)) c.unwrap_or-len.ensures
 
 pub returns-clause-after : goal.returns-clause-after
 returns-clause-after c =
