@@ -25,6 +25,7 @@ use Rattle.xb_values.specs.Prefixes.{Prefix, Sections, prefix_cmp}
 use Rattle.xb_values.proofs.PrefixLemmas.{prefix_total, prefix_exact}
 use Rattle.bgp_write.specs.Pending.{section_of}
 use Rattle.bgp_write.proofs.SetLemmas.{by_ordering}
+use Rattle.out_sorted.specs.Waits.{with_wait}
 use Rattle.out_sorted.specs.Slots.{Slot, Slots, adv_in, part, with_front, without_adv, keys_where}
 
 -- every key is after a prefix
@@ -57,7 +58,7 @@ found_later e es p x rising there = by_ordering (prefix_cmp p e.0)
     (λ g. g)
 
 -- a write of the value that is there changes nothing
-with_value-same : {X : Type 0} (t : List (Prefix × X)) (p : Prefix) (x : X) → IsRising prefix_cmp t
+pub with_value-same : {X : Type 0} (t : List (Prefix × X)) (p : Prefix) (x : X) → IsRising prefix_cmp t
     → value_at prefix_cmp t p ≡ Some x → with_value prefix_cmp t p x ≡ t
 with_value-same [] p x rising there = absurd (cc there)
 with_value-same (e ∷ t) p x rising there = by_ordering (prefix_cmp p e.0)
@@ -205,11 +206,22 @@ set_value-with_value (e ∷ es) p old new rising there = by_ordering (prefix_cmp
     (λ g. rw g (ap (λ (l : List (Prefix × _)). e ∷ l)
     (set_value-with_value es p old new (tail_of e es rising) (rw g at there))))
 
+pub set_value-same : {X : Type 0} (es : List (Prefix × X)) (p : Prefix) (x : X) → IsRising prefix_cmp es
+    → value_at prefix_cmp es p ≡ Some x → set_value (is_at (prefix_cmp p)) es x ≡ es
+set_value-same es p x rising there =
+    set_value-with_value es p x x rising there ∙ with_value-same es p x rising there
+
 -- a slot that was told stays when it is advertised no longer
 pub without_adv-told : (es : Slots) (p : Prefix) (told : Option (List ℕ)) → is_some told ≡ true
     → with_value prefix_cmp es p (record { adv = None; told = told }) ≡ without_adv es p told
 without_adv-told es p None some = absurd (cc some)
 without_adv-told es p (Some t) some = refl
+
+-- and any other goes
+pub without_adv-fresh : (es : Slots) (p : Prefix) (told : Option (List ℕ)) → is_some told ≡ false
+    → without prefix_cmp es p ≡ without_adv es p told
+without_adv-fresh es p None none = refl
+without_adv-fresh es p (Some t) none = absurd (cc none)
 
 -- the section with which a prefix is advertised
 pub section_of-some : (es : Slots) (p : Prefix) (s : Slot) (x : List ℕ) → IsRising prefix_cmp es
@@ -309,28 +321,24 @@ IsStrictlySortedBy-keys_where test es rising =
     subst (λ (l : List Prefix). IsStrictlySortedBy prefix_cmp l) (keys_of-part test es)
     (IsRising-part (marked test) es rising)
 
--- one more passes after a write of a slot that does
-pub keys_where-more : (test : Slot → Bool) (es : Slots) (p : Prefix) (s : Slot) → IsRising prefix_cmp es
-    → test s ≡ true → keys_where test (with_value prefix_cmp es p s) ≡ insert_key prefix_cmp (keys_where test es) p
-keys_where-more test es p s rising passes =
+-- after a write there is one more or one less, as the slot passes
+pub keys_where-written : (test : Slot → Bool) (es : Slots) (p : Prefix) (s : Slot) (passes : Bool)
+    → IsRising prefix_cmp es → test s ≡ passes
+    → keys_where test (with_value prefix_cmp es p s) ≡ with_wait (keys_where test es) p passes
+keys_where-written test es p s true rising is =
     sym (keys_of-part test (with_value prefix_cmp es p s))
-    ∙ ap keys_of (part-with_value-some (marked test) es p s [] rising (rw passes refl))
+    ∙ ap keys_of (part-with_value-some (marked test) es p s [] rising (rw is refl))
     ∙ keys_of-with_value (part (marked test) es) p []
     ∙ ap (λ (l : List Prefix). insert_key prefix_cmp l p) (keys_of-part test es)
-
--- one less after a write of a slot that does not
-pub keys_where-less : (test : Slot → Bool) (es : Slots) (p : Prefix) (s : Slot) → IsRising prefix_cmp es
-    → test s ≡ false
-    → keys_where test (with_value prefix_cmp es p s) ≡ remove_key (is_at (prefix_cmp p)) (keys_where test es)
-keys_where-less test es p s rising fails =
+keys_where-written test es p s false rising is =
     sym (keys_of-part test (with_value prefix_cmp es p s))
-    ∙ ap keys_of (part-with_value-none (marked test) es p s rising (rw fails refl))
+    ∙ ap keys_of (part-with_value-none (marked test) es p s rising (rw is refl))
     ∙ keys_of-without (part (marked test) es) p
     ∙ ap (remove_key (is_at (prefix_cmp p))) (keys_of-part test es)
 
--- and after a removal
+-- and after a removal one less
 pub keys_where-removed : (test : Slot → Bool) (es : Slots) (p : Prefix) → IsRising prefix_cmp es
-    → keys_where test (without prefix_cmp es p) ≡ remove_key (is_at (prefix_cmp p)) (keys_where test es)
+    → keys_where test (without prefix_cmp es p) ≡ with_wait (keys_where test es) p false
 keys_where-removed test es p rising =
     sym (keys_of-part test (without prefix_cmp es p))
     ∙ ap keys_of (part-without (marked test) es p rising)

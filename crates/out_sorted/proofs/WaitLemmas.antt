@@ -1,4 +1,5 @@
 -- What a change of the prefixes that wait does to what is kept of them.
+use Rattle.std.proofs.Common.{is_some}
 use Rattle.std.proofs.Common.{◌≡◌, true, false, inl, inr, List, [], ◌∷◌, Option, Some, None, refl, sym, ◌∙◌, ap, subst}
 use Rattle.std.specs.BTreeMap.{is_at}
 use Rattle.std.specs.BTreeMap.Range.{IsLeBy}
@@ -31,7 +32,7 @@ AllFrom-insert_key : (from p : Prefix) (ps : List Prefix) → IsLeBy prefix_cmp 
     → AllFrom from (insert_key prefix_cmp ps p)
 AllFrom-insert_key from p [] here all = (here, tt)
 AllFrom-insert_key from p (q ∷ ps) here all = by_ordering (prefix_cmp p q)
-    (λ l. rw l (here, all.0, all.1)) (λ e. rw e all)
+    (λ l. rw l (here, all)) (λ e. rw e all)
     (λ g. rw g (all.0, AllFrom-insert_key from p ps here all.1))
 
 AllFrom-remove_key : (from p : Prefix) (ps : List Prefix) → AllFrom from ps
@@ -77,11 +78,12 @@ HasBy-remove_key (Some from) p known new ps is has =
     (is ∙ ap (remove_key (is_at (prefix_cmp p))) has.0, AllFrom-remove_key from p ps has.1)
 
 -- a search found the first
-pub HasBy-found : (from : Prefix) (first : Option Prefix) (known ps : List Prefix) → IsStrictlySortedBy prefix_cmp ps
-    → first ≡ first_of ps → HasBy (Some from) known ps → HasBy first known ps
-HasBy-found from None known [] sorted is has = has.0
-HasBy-found from None known (p ∷ ps) sorted is has = absurd (cc is)
-HasBy-found from (Some q) known [] sorted is has = absurd (cc is)
-HasBy-found from (Some q) known (p ∷ ps) sorted is has =
+pub HasBy-found : (from first : Option Prefix) (known ps : List Prefix) → true ≡ is_some from
+    → IsStrictlySortedBy prefix_cmp ps → first ≡ first_of ps → HasBy from known ps → HasBy first known ps
+HasBy-found None first known ps some sorted is has = absurd (cc some)
+HasBy-found (Some from) None known [] some sorted is has = has.0
+HasBy-found (Some from) None known (p ∷ ps) some sorted is has = absurd (cc is)
+HasBy-found (Some from) (Some q) known [] some sorted is has = absurd (cc is)
+HasBy-found (Some from) (Some q) known (p ∷ ps) some sorted is has =
     let same : p ≡ q = cc is in
     (has.0, subst (λ (s : Prefix). AllFrom s (p ∷ ps)) same (AllFrom-first p ps sorted))

@@ -78,10 +78,10 @@ pub record IsSound (es : Slots) : Type 0 where
   pub slots : AllByRecursion IsSlot es
 
 -- what the private fields keep
-pub record IsKept (gone fresh : Waiting) (es : Slots) : Type 0 where
+pub record IsKept (to_withdraw to_announce : Waiting) (es : Slots) : Type 0 where
   pub sound : IsSound es
-  pub gone : Has gone (keys_where is_gone es)
-  pub fresh : Has fresh (keys_where is_fresh es)
+  pub gone : Has to_withdraw (keys_where is_gone es)
+  pub fresh : Has to_announce (keys_where is_fresh es)
 
 -- what a message leaves, beside the prefixes that it is about; others wait for another message
 pub record Keeps (waits : Slot → Bool) (old new : Slots) : Type 0 where

@@ -64,12 +64,9 @@ impl SortedOut {
             ≡ record self.old { adv = with_value prefix_cmp self.old.adv prefix section.now }) }
         ensures err { OnErr result (self.new ≡ self.old) }
     {
-        if put(&mut self.entries, self.alloc, prefix, section)? {
-            self.fresh.add(prefix);
-        } else {
-            self.fresh.remove(prefix);
-        }
-        self.gone.remove(prefix);
+        let waits = put(&mut self.entries, self.alloc, prefix, section)?;
+        self.fresh.set(prefix, waits);
+        self.gone.set(prefix, false);
         Ok(())
     }
 
@@ -77,10 +74,9 @@ impl SortedOut {
     pub fn unset(&mut self, prefix: Prefix)
         ensures { self.new ≡ record self.old { adv = without prefix_cmp self.old.adv prefix } }
     {
-        if take_back(&mut self.entries, prefix) {
-            self.gone.add(prefix);
-        }
-        self.fresh.remove(prefix);
+        let waits = take_back(&mut self.entries, prefix);
+        self.gone.set(prefix, waits);
+        self.fresh.set(prefix, false);
     }
 
     /// Replaces the content of `out` by the next UPDATE, which the peer is then told. False, with `out` unchanged, if
