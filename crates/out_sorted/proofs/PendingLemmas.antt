@@ -254,23 +254,23 @@ not_some : (o : Option Prefix) → is_some o ≡ false → o ≡ None
 not_some None is = refl
 not_some (Some p) is = absurd (cc is)
 
-pub pending-searched : (es : Slots) (gone fresh : Option Prefix) (b : Bool) → IsSound es → is_some gone ≡ false
-    → gone ≡ first_of (keys_where is_gone es) → fresh ≡ first_of (keys_where is_fresh es)
-    → is_some fresh ≡ not b → (b ≡ true) ↔ (pending (adv_in es) (told_in es) ≡ [])
-pending-searched es gone fresh true sound none is_first is_next said = (
-  λ _. pending-none es sound (sym is_first ∙ not_some gone none) (sym is_next ∙ not_some fresh said),
+pub pending-searched : (es : Slots) (first next : Option Prefix) (b : Bool) → IsSound es → is_some first ≡ false
+    → first ≡ first_of (keys_where is_gone es) → next ≡ first_of (keys_where is_fresh es)
+    → is_some next ≡ not b → (b ≡ true) ↔ (pending (adv_in es) (told_in es) ≡ [])
+pending-searched es first next true sound none is_first is_next said = (
+  λ _. pending-none es sound (sym is_first ∙ not_some first none) (sym is_next ∙ not_some next said),
   λ _. refl,
 )
-pending-searched es gone fresh false sound none is_first is_next said = (
+pending-searched es first next false sound none is_first is_next said = (
   λ t. absurd (cc t),
-  λ drained. absurd (cc (said, is_next, ap is_some (is_next ∙ (none-pending es sound drained).1))),
+  λ drained. absurd (cc (said, ap is_some (is_next ∙ (none-pending es sound drained).1))),
 )
 
 -- and that some waits, as one does
-pub pending-found : (es : Slots) (gone : Option Prefix) (b : Bool) → IsSound es → is_some gone ≡ true
-    → gone ≡ first_of (keys_where is_gone es)
+pub pending-found : (es : Slots) (first : Option Prefix) (b : Bool) → IsSound es → is_some first ≡ true
+    → first ≡ first_of (keys_where is_gone es)
     → b ≡ false → (b ≡ true) ↔ (pending (adv_in es) (told_in es) ≡ [])
-pending-found es gone b sound some is_first said = (
+pending-found es first b sound some is_first said = (
   λ t. absurd (cc (said, t)),
   λ drained. absurd (cc (some, ap is_some (is_first ∙ (none-pending es sound drained).0))),
 )

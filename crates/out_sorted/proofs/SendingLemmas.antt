@@ -2,7 +2,7 @@
 use Rattle.std.proofs.Common.{◌≡◌, ℕ, ◌+◌, ◌-◌, ◌<◌, ◌≤◌, true, false, inl, inr, List, [], ◌∷◌, ◌++◌, Option, Some}
 use Rattle.std.proofs.Common.{None, refl, sym, ◌∙◌, ap, subst, length, fold, flat_map, take_while, is_some, is_none}
 use Rattle.std.proofs.Common.{not, nat_lt, ◌||◌, arith, length-append, append_assoc, append-nil, if◌then◌else◌, IsTrue}
-use Rattle.std.proofs.Common.{cond}
+use Rattle.std.proofs.Common.{cond, Bool}
 use Rattle.std.specs.Option.{IfSome, option_and_then}
 use Rattle.std.specs.Str.{bytes_eq}
 use Rattle.std.proofs.lemmas.Bool.{cases_Bool, cases_lt, and_parts, lt-ltb, le-ltb}
@@ -431,16 +431,14 @@ shape-announcing old new s p shape more =
     ∙ ap (λ l. record (announcing s) { prefixes = l }) (sym (ap (λ (x : Packed). x.prefixes) more))
 
 -- a loop that announces, after one prefix more
-pub more_announced : (old es new : Slots) (p first : Prefix) (s : List ℕ) (packed after : Packed) → Keeps old es
-    → first_of (keys_where is_fresh es) ≡ Some first
+pub more_announced : (old es new : Slots) (p : Prefix) (s : List ℕ) (packed after : Packed) → Keeps is_gone old es
+    → first_of (keys_where is_fresh es) ≡ Some p
     → packed ≡ record (announcing s) { prefixes = packed.prefixes }
     → announcement_from s packed.prefixes es ≡ announcement_from s [] old
-    → bytes_eq (section_of (adv_in es) first) s ≡ true
-    → length (packed_message (with_prefix packed p)) ≤ MAX_MESSAGE → p ≡ first → after ≡ with_prefix packed p
-    → new ≡ retold es first (value_at prefix_cmp es first)
+    → bytes_eq (section_of (adv_in es) p) s ≡ true
+    → length (packed_message (with_prefix packed p)) ≤ MAX_MESSAGE → after ≡ with_prefix packed p
+    → new ≡ retold es p (value_at prefix_cmp es p)
     → announcement_from s after.prefixes new ≡ announcement_from s [] old
-more_announced old es new p first s packed after keeps is shape whole goes fits same more done =
-    let short = subst (λ (q : Prefix). length (packed_message (with_prefix packed q)) ≤ MAX_MESSAGE) same fits in
+more_announced old es new p s packed after keeps is shape whole goes fits more done =
     ap (λ (x : Packed). announcement_from s x.prefixes new) more
-    ∙ ap (λ q. announcement_from s (packed.prefixes ++ prefix_octets q) new) same
-    ∙ sym (announcement_from-more es new first s packed shape keeps.sound.rising is goes short done) ∙ whole
+    ∙ sym (announcement_from-more es new p s packed shape keeps.sound.rising is goes fits done) ∙ whole

@@ -1,4 +1,4 @@
-use Rattle.std.proofs.Common.{Some, None, sym, ◌∙◌, ap}
+use Rattle.std.proofs.Common.{Some, None}
 use Rattle.out_sorted.specs.Slots.{is_gone, keys_where}
 use Rattle.out_sorted.proofs.SlotLemmas.{IsStrictlySortedBy-keys_where}
 use Rattle.out_sorted.proofs.entries.next_gone.Goals as goal
@@ -12,5 +12,5 @@ returns-in_default-clause-waits c =
 pub returns-clause-waits : goal.returns-clause-waits
 returns-clause-waits c =
     let es = c.args.entries.now.entries in
-    c.start_at.ensures (keys_where is_gone es) (IsStrictlySortedBy-keys_where is_gone es c.requires.rising)
+    c.start_at-2.ensures (keys_where is_gone es) (IsStrictlySortedBy-keys_where is_gone es c.requires.rising)
     c.in-Some.ensures c.requires.waits
