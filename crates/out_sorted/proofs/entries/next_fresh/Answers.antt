@@ -1,4 +1,3 @@
-use Rattle.std.proofs.Common.{Some, None}
 use Rattle.out_sorted.specs.Slots.{is_fresh, keys_where}
 use Rattle.out_sorted.proofs.SlotLemmas.{IsStrictlySortedBy-keys_where}
 use Rattle.out_sorted.proofs.entries.next_fresh.Goals as goal

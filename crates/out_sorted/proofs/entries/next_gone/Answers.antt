@@ -1,4 +1,3 @@
-use Rattle.std.proofs.Common.{Some, None}
 use Rattle.out_sorted.specs.Slots.{is_gone, keys_where}
 use Rattle.out_sorted.proofs.SlotLemmas.{IsStrictlySortedBy-keys_where}
 use Rattle.out_sorted.proofs.entries.next_gone.Goals as goal
