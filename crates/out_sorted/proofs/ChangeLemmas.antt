@@ -1,5 +1,5 @@
 -- What a change of what is advertised does to the slots.
-use Rattle.std.proofs.Common.{◌≡◌, ◌≤◌, Bool, true, false, List, ℕ, Option, Some, None, refl, sym, ◌∙◌, ap, length}
+use Rattle.std.proofs.Common.{◌≡◌, ◌≤◌, Bool, true, false, List, ℕ, Option, Some, None, refl, sym, ◌∙◌, ap, subst, length}
 use Rattle.std.proofs.Common.{is_some}
 use Rattle.std.specs.Option.{option_and_then}
 use Rattle.xb_words.specs.Table.{value_at, with_value, without, IsRising}
@@ -9,12 +9,13 @@ use Rattle.xb_values.specs.Prefixes.{Prefix, prefix_cmp}
 use Rattle.xb_values.proofs.PrefixLemmas.{prefix_total}
 use Rattle.xb_wire.specs.declared.numbers.TheConstants.{MAX_SECTION}
 use Rattle.out_sorted.specs.Told.{Told}
-use Rattle.out_sorted.specs.Spans.{Span, is_within}
-use Rattle.out_sorted.specs.Slots.{Slot, Slots, IsSlot, IsSound, IsKept, AllInSpan, adv_in, told_of, advertised}
-use Rattle.out_sorted.specs.Slots.{taken_back, was_told, is_gone, is_fresh}
+use Rattle.out_sorted.specs.Slots.{Slot, Slots, IsSlot, IsSound, IsKept, adv_in, told_of, advertised, keys_where}
+use Rattle.out_sorted.specs.Slots.{taken_back, was_told, without_adv, is_gone, is_fresh}
+use Rattle.out_sorted.specs.Waits.{Has, with_wait}
+use Rattle.out_sorted.specs.declared.waiting.Waiting.{Waiting}
 use Rattle.out_sorted.proofs.SlotLemmas.{value_at-part, part-with_value-some, part-with_value-none}
-use Rattle.out_sorted.proofs.SlotLemmas.{part-with_value-same, part-without, part-without-same, AllInSpan-with_value}
-use Rattle.out_sorted.proofs.SlotLemmas.{AllInSpan-wider}
+use Rattle.out_sorted.proofs.SlotLemmas.{part-with_value-same, part-without, part-without-same, keys_where-written}
+use Rattle.out_sorted.proofs.SlotLemmas.{keys_where-removed}
 
 adv-advertised : (o : Option Slot) (x : List ℕ) → (advertised o x).adv ≡ Some x
 adv-advertised None x = refl
@@ -52,18 +53,23 @@ advertised-gone : (o : Option Slot) (x : List ℕ) → is_gone (advertised o x) 
 advertised-gone None x = refl
 advertised-gone (Some s) x = refl
 
-pub kept-advertised : (gone fresh wider : Option Span) (es new : Slots) (p : Prefix) (x : List ℕ)
-    → length x ≤ MAX_SECTION → IsKept gone fresh es
-    → ((q : Prefix) → is_within fresh q ≡ true → is_within wider q ≡ true)
-    → (is_fresh (advertised (value_at prefix_cmp es p) x) ≡ true → is_within wider p ≡ true)
-    → new ≡ with_value prefix_cmp es p (advertised (value_at prefix_cmp es p) x) → IsKept gone wider new
-kept-advertised gone fresh wider es new p x short kept others here is =
+pub kept-advertised : (gone fresh gone_after fresh_after : Waiting) (es new : Slots) (p : Prefix) (x : List ℕ)
+    (waits : Bool) → length x ≤ MAX_SECTION → IsKept gone fresh es
+    → waits ≡ is_fresh (advertised (value_at prefix_cmp es p) x)
+    → ((ps : List Prefix) → Has gone ps → Has gone_after (with_wait ps p false))
+    → ((ps : List Prefix) → Has fresh ps → Has fresh_after (with_wait ps p waits))
+    → new ≡ with_value prefix_cmp es p (advertised (value_at prefix_cmp es p) x)
+    → IsKept gone_after fresh_after new
+kept-advertised gone fresh gone_after fresh_after es new p x waits short kept said on_gone on_fresh is =
     let s = advertised (value_at prefix_cmp es p) x in
-    let all : IsKept gone wider (with_value prefix_cmp es p s) = record {
+    let rising = kept.sound.rising in
+    let all : IsKept gone_after fresh_after (with_value prefix_cmp es p s) = record {
       sound = written_is_sound es p s kept.sound (λ q. advertised_is_slot (value_at prefix_cmp es p) x q short);
-      gone = AllInSpan-with_value is_gone gone gone es p s (λ q inside. inside)
-          (λ t. absurd (cc (t, advertised-gone (value_at prefix_cmp es p) x))) kept.gone;
-      fresh = AllInSpan-with_value is_fresh fresh wider es p s others here kept.fresh;
+      gone = subst (Has gone_after)
+          (sym (keys_where-written is_gone es p s false rising (advertised-gone (value_at prefix_cmp es p) x)))
+          (on_gone (keys_where is_gone es) kept.gone);
+      fresh = subst (Has fresh_after) (sym (keys_where-written is_fresh es p s waits rising (sym said)))
+          (on_fresh (keys_where is_fresh es) kept.fresh);
     } in
     rw is all
 
@@ -88,41 +94,60 @@ told_of-taken_back es p None rising there =
     told_by _ _ (sym (without-absent prefix_cmp (adv_in es) p absent)) refl
 told_of-taken_back es p (Some s) rising there = told_of-slot es p s.adv s.told rising there
 
-pub AllInSpan-without : (f : Slot → Bool) (a b : Option Span) (es : Slots) (p : Prefix)
-    → ((q : Prefix) → is_within a q ≡ true → is_within b q ≡ true)
-    → AllInSpan f a es → AllInSpan f b (without prefix_cmp es p)
-AllInSpan-without f a b es p wider all =
-    AllByRecursion-without prefix_cmp (λ e. f e.1 ≡ true → is_within b e.0 ≡ true) es p
-    (AllInSpan-wider f a b es wider all)
+-- the prefixes that wait then
+absent-waits : (test : Slot → Bool) (es : Slots) (p : Prefix) → IsRising prefix_cmp es
+    → value_at prefix_cmp es p ≡ None → keys_where test es ≡ with_wait (keys_where test es) p false
+absent-waits test es p rising there =
+    ap (keys_where test) (sym (without-absent prefix_cmp es p there)) ∙ keys_where-removed test es p rising
 
-kept-slot : (gone fresh wider : Option Span) (es : Slots) (p : Prefix) (a t : Option (List ℕ)) → IsKept gone fresh es
-    → ((q : Prefix) → is_within gone q ≡ true → is_within wider q ≡ true)
-    → (is_some t ≡ true → is_within wider p ≡ true)
-    → IsKept wider fresh (taken_back es p (Some (record { adv = a; told = t })))
-kept-slot gone fresh wider es p a None kept others here = record {
-  sound = record {
-    rising = IsRising-without prefix_cmp prefix_total es p kept.sound.rising;
-    slots = AllByRecursion-without prefix_cmp IsSlot es p kept.sound.slots;
-  };
-  gone = AllInSpan-without is_gone gone wider es p others kept.gone;
-  fresh = AllInSpan-without is_fresh fresh fresh es p (λ q inside. inside) kept.fresh;
-}
-kept-slot gone fresh wider es p a (Some t) kept others here =
-    let s : Slot = record { adv = None; told = Some t } in
-    record {
-      sound = written_is_sound es p s kept.sound (λ q. record { some = refl; short = tt });
-      gone = AllInSpan-with_value is_gone gone wider es p s others (λ _. here refl) kept.gone;
-      fresh = AllInSpan-with_value is_fresh fresh fresh es p s (λ q inside. inside) (λ t. absurd (cc t)) kept.fresh;
-    }
+gone-slot : (es : Slots) (p : Prefix) (t : Option (List ℕ)) → IsRising prefix_cmp es
+    → keys_where is_gone (without_adv es p t) ≡ with_wait (keys_where is_gone es) p (is_some t)
+gone-slot es p None rising = keys_where-removed is_gone es p rising
+gone-slot es p (Some t) rising =
+    keys_where-written is_gone es p (record { adv = None; told = Some t }) true rising refl
 
-pub kept-taken_back : (gone fresh wider : Option Span) (es : Slots) (p : Prefix) (o : Option Slot)
-    → IsKept gone fresh es
-    → ((q : Prefix) → is_within gone q ≡ true → is_within wider q ≡ true)
-    → (was_told o ≡ true → is_within wider p ≡ true) → IsKept wider fresh (taken_back es p o)
-kept-taken_back gone fresh wider es p None kept others here = record {
-  sound = kept.sound;
-  gone = AllInSpan-wider is_gone gone wider es others kept.gone;
-  fresh = kept.fresh;
+fresh-slot : (es : Slots) (p : Prefix) (t : Option (List ℕ)) → IsRising prefix_cmp es
+    → keys_where is_fresh (without_adv es p t) ≡ with_wait (keys_where is_fresh es) p false
+fresh-slot es p None rising = keys_where-removed is_fresh es p rising
+fresh-slot es p (Some t) rising =
+    keys_where-written is_fresh es p (record { adv = None; told = Some t }) false rising refl
+
+gone-taken_back : (es : Slots) (p : Prefix) (o : Option Slot) → IsRising prefix_cmp es → value_at prefix_cmp es p ≡ o
+    → keys_where is_gone (taken_back es p o) ≡ with_wait (keys_where is_gone es) p (was_told o)
+gone-taken_back es p None rising there = absent-waits is_gone es p rising there
+gone-taken_back es p (Some s) rising there = gone-slot es p s.told rising
+
+fresh-taken_back : (es : Slots) (p : Prefix) (o : Option Slot) → IsRising prefix_cmp es → value_at prefix_cmp es p ≡ o
+    → keys_where is_fresh (taken_back es p o) ≡ with_wait (keys_where is_fresh es) p false
+fresh-taken_back es p None rising there = absent-waits is_fresh es p rising there
+fresh-taken_back es p (Some s) rising there = fresh-slot es p s.told rising
+
+sound-slot : (es : Slots) (p : Prefix) (t : Option (List ℕ)) → IsSound es → IsSound (without_adv es p t)
+sound-slot es p None sound = record {
+  rising = IsRising-without prefix_cmp prefix_total es p sound.rising;
+  slots = AllByRecursion-without prefix_cmp IsSlot es p sound.slots;
 }
-kept-taken_back gone fresh wider es p (Some s) kept others here =
-    kept-slot gone fresh wider es p s.adv s.told kept others here
+sound-slot es p (Some t) sound =
+    written_is_sound es p (record { adv = None; told = Some t }) sound (λ q. record { some = refl; short = tt })
+
+sound-taken_back : (es : Slots) (p : Prefix) (o : Option Slot) → IsSound es → IsSound (taken_back es p o)
+sound-taken_back es p None sound = sound
+sound-taken_back es p (Some s) sound = sound-slot es p s.told sound
+
+pub kept-taken_back : (gone fresh gone_after fresh_after : Waiting) (es new : Slots) (p : Prefix) (waits : Bool)
+    → IsKept gone fresh es → waits ≡ was_told (value_at prefix_cmp es p)
+    → ((ps : List Prefix) → Has gone ps → Has gone_after (with_wait ps p waits))
+    → ((ps : List Prefix) → Has fresh ps → Has fresh_after (with_wait ps p false))
+    → new ≡ taken_back es p (value_at prefix_cmp es p) → IsKept gone_after fresh_after new
+kept-taken_back gone fresh gone_after fresh_after es new p waits kept said on_gone on_fresh is =
+    let o = value_at prefix_cmp es p in
+    let rising = kept.sound.rising in
+    let all : IsKept gone_after fresh_after (taken_back es p o) = record {
+      sound = sound-taken_back es p o kept.sound;
+      gone = subst (Has gone_after)
+          (ap (with_wait (keys_where is_gone es) p) said ∙ sym (gone-taken_back es p o rising refl))
+          (on_gone (keys_where is_gone es) kept.gone);
+      fresh = subst (Has fresh_after) (sym (fresh-taken_back es p o rising refl))
+          (on_fresh (keys_where is_fresh es) kept.fresh);
+    } in
+    subst (λ (l : Slots). IsKept gone_after fresh_after l) (sym is) all

@@ -1,4 +1,5 @@
 pub mod SlotLemmas
+pub mod WaitLemmas
 pub mod PendingLemmas
 pub mod ChangeLemmas
 pub mod SendingLemmas

@@ -4,7 +4,7 @@ use Rattle.std.proofs.Common.{sym, ◌∙◌, ap, filter, fold, is_some, is_none
 use Rattle.std.proofs.Common.{take_while, ◌↔◌}
 use Rattle.std.specs.List.{AllByRecursion}
 use Rattle.std.specs.Map.{keys_of}
-use Rattle.std.specs.Option.{option_and_then, option_map}
+use Rattle.std.specs.Option.{option_and_then}
 use Rattle.std.specs.Ordering.{ordering_reverse}
 use Rattle.std.specs.declared.cmp.Ordering.TheVariants.{Less, Greater}
 use Rattle.std.proofs.lemmas.Bool.{cases_Bool}
@@ -19,7 +19,6 @@ use Rattle.xb_wire.specs.declared.numbers.TheConstants.{EMPTY_UPDATE, MAX_MESSAG
 use Rattle.bgp_write.specs.Pending.{Formed, form, pending, same_section, announced, announcement, withdrawal}
 use Rattle.bgp_write.specs.Pending.{withdrawn_first, section_of, fitting, has_section}
 use Rattle.bgp_write.proofs.PendingLemmas.{differs}
-use Rattle.out_sorted.specs.Spans.{Span}
 use Rattle.out_sorted.specs.Slots.{Slot, Slots, IsSlot, IsSound, adv_in, told_in, with_front, keys_where, is_gone}
 use Rattle.out_sorted.specs.Slots.{is_fresh}
 use Rattle.out_sorted.specs.Sending.{announcement_from, withdrawal_from}
@@ -250,39 +249,28 @@ none-pending es sound drained =
     ∙ ap (filter (λ p. is_none (value_at prefix_cmp (adv_in es) p))) waiting in
     (ap first_of gone, ap first_of (sym (waits-fresh es gone) ∙ waiting))
 
--- whether a span was found says whether a prefix waits
-first_by : (span : Option Span) (o : Option Prefix) → option_map (λ s. s.first) span ≡ o → is_some span ≡ is_some o
-first_by None o is = ap is_some is
-first_by (Some s) o is = ap is_some is
-
+-- that none waits, as two searches say it
 not_some : (o : Option Prefix) → is_some o ≡ false → o ≡ None
 not_some None is = refl
 not_some (Some p) is = absurd (cc is)
 
--- that none waits, as two searches say it
-pub pending-searched : (es : Slots) (gone fresh : Option Span) (b : Bool) → IsSound es → is_some gone ≡ false
-    → option_map (λ s. s.first) gone ≡ first_of (keys_where is_gone es)
-    → option_map (λ s. s.first) fresh ≡ first_of (keys_where is_fresh es)
-    → is_some fresh ≡ not b → (b ≡ true) ↔ (pending (adv_in es) (told_in es) ≡ [])
-pending-searched es first fresh true sound none is_first is_next said = (
-  λ _. pending-none es sound (not_some _ (sym (first_by first _ is_first) ∙ none))
-      (not_some _ (sym (first_by fresh _ is_next) ∙ said)),
+pub pending-searched : (es : Slots) (first next : Option Prefix) (b : Bool) → IsSound es → is_some first ≡ false
+    → first ≡ first_of (keys_where is_gone es) → next ≡ first_of (keys_where is_fresh es)
+    → is_some next ≡ not b → (b ≡ true) ↔ (pending (adv_in es) (told_in es) ≡ [])
+pending-searched es first next true sound none is_first is_next said = (
+  λ _. pending-none es sound (sym is_first ∙ not_some first none) (sym is_next ∙ not_some next said),
   λ _. refl,
 )
-pending-searched es first fresh false sound none is_first is_next said = (
+pending-searched es first next false sound none is_first is_next said = (
   λ t. absurd (cc t),
-  λ drained.
-      let last : is_some (first_of (keys_where is_fresh es)) ≡ false = ap is_some (none-pending es sound drained).1 in
-      absurd (cc (said, first_by fresh _ is_next, last)),
+  λ drained. absurd (cc (said, ap is_some (is_next ∙ (none-pending es sound drained).1))),
 )
 
 -- and that some waits, as one does
-pub pending-found : (es : Slots) (gone : Option Span) (b : Bool) → IsSound es → is_some gone ≡ true
-    → option_map (λ s. s.first) gone ≡ first_of (keys_where is_gone es)
+pub pending-found : (es : Slots) (first : Option Prefix) (b : Bool) → IsSound es → is_some first ≡ true
+    → first ≡ first_of (keys_where is_gone es)
     → b ≡ false → (b ≡ true) ↔ (pending (adv_in es) (told_in es) ≡ [])
 pending-found es first b sound some is_first said = (
   λ t. absurd (cc (said, t)),
-  λ drained.
-      let none : is_some (first_of (keys_where is_gone es)) ≡ false = ap is_some (none-pending es sound drained).0 in
-      absurd (cc (some, first_by first _ is_first, none)),
+  λ drained. absurd (cc (some, ap is_some (is_first ∙ (none-pending es sound drained).0))),
 )

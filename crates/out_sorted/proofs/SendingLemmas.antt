@@ -2,7 +2,7 @@
 use Rattle.std.proofs.Common.{◌≡◌, ℕ, ◌+◌, ◌-◌, ◌<◌, ◌≤◌, true, false, inl, inr, List, [], ◌∷◌, ◌++◌, Option, Some}
 use Rattle.std.proofs.Common.{None, refl, sym, ◌∙◌, ap, subst, length, fold, flat_map, take_while, is_some, is_none}
 use Rattle.std.proofs.Common.{not, nat_lt, ◌||◌, arith, length-append, append_assoc, append-nil, if◌then◌else◌, IsTrue}
-use Rattle.std.proofs.Common.{cond}
+use Rattle.std.proofs.Common.{cond, Bool}
 use Rattle.std.specs.Option.{IfSome, option_and_then}
 use Rattle.std.specs.Str.{bytes_eq}
 use Rattle.std.proofs.lemmas.Bool.{cases_Bool, cases_lt, and_parts, lt-ltb, le-ltb}
@@ -19,12 +19,15 @@ use Rattle.bgp_write.specs.Pending.{Formed, fitting, has_section, same_section, 
 use Rattle.bgp_write.proofs.MessageLemmas.{length-packed_message}
 use Rattle.out_sorted.specs.Slots.{Slot, Slots, IsSlot, IsSound, Keeps, adv_in, told_in, retold, keys_where, is_gone}
 use Rattle.out_sorted.specs.Slots.{is_fresh}
+use Rattle.out_sorted.specs.Waits.{Has}
+use Rattle.out_sorted.specs.declared.waiting.Waiting.{Waiting}
 use Rattle.out_sorted.specs.Sending.{announcement_from, announcement_of, formed_by, withdrawal_from, withdrawal_of}
 use Rattle.out_sorted.specs.Sending.{to_announce, to_withdraw}
 use Rattle.out_sorted.proofs.SlotLemmas.{value_at-part, part-with_value-some, part-with_value-same}
 use Rattle.out_sorted.proofs.SlotLemmas.{part-without, part-without-same, first-where, keys_where-with_value}
-use Rattle.out_sorted.proofs.SlotLemmas.{keys_where-without, AllInSpan-with_value, section_of-some}
-use Rattle.out_sorted.proofs.ChangeLemmas.{AllInSpan-without, written_is_sound}
+use Rattle.out_sorted.proofs.SlotLemmas.{keys_where-without, keys_where-without-same, keys_where-with_value-same}
+use Rattle.out_sorted.proofs.SlotLemmas.{section_of-some}
+use Rattle.out_sorted.proofs.ChangeLemmas.{written_is_sound}
 use Rattle.out_sorted.proofs.PendingLemmas.{no_first, some_first}
 
 -- a prefix that waits to be withdrawn is not advertised
@@ -35,26 +38,40 @@ gone_is s gone = go s.adv gone
     go None none = refl
     go (Some x) none = absurd (cc none)
 
+gone-not_fresh : (s : Slot) → is_gone s ≡ true → is_fresh s ≡ false
+gone-not_fresh s gone = ap (λ o. is_fresh (record { adv = o; told = s.told })) (gone_is s gone)
+
 -- what a message keeps, before it has a prefix
-pub keeps-itself : (es : Slots) → IsSound es → Keeps es es
-keeps-itself es sound = record { sound = sound; adv = refl; gone = λ span a. a; fresh = λ span a. a }
+pub keeps-itself : (waits : Slot → Bool) (es : Slots) → IsSound es → Keeps waits es es
+keeps-itself waits es sound = record { sound = sound; adv = refl; others = refl }
 
 -- what a message keeps, when a prefix is forgotten that was to be withdrawn
-pub keeps-without : (old es new : Slots) (p : Prefix) → Keeps old es → first_of (keys_where is_gone es) ≡ Some p
-    → new ≡ without prefix_cmp es p → Keeps old new
+pub keeps-without : (old es new : Slots) (p : Prefix) → Keeps is_fresh old es
+    → first_of (keys_where is_gone es) ≡ Some p → new ≡ without prefix_cmp es p → Keeps is_fresh old new
 keeps-without old es new p keeps is done =
     let f = first-where is_gone es p keeps.sound.rising is in
     let none = ap (option_and_then (λ (s : Slot). s.adv)) f.1 ∙ gone_is f.0 f.2 in
-    let all : Keeps old (without prefix_cmp es p) = record {
+    let not_fresh : IfSome (value_at prefix_cmp es p) (λ s. is_fresh s ≡ false) =
+    subst (λ (o : Option Slot). IfSome o (λ s. is_fresh s ≡ false)) (sym f.1) (gone-not_fresh f.0 f.2) in
+    let all : Keeps is_fresh old (without prefix_cmp es p) = record {
       sound = record {
         rising = IsRising-without prefix_cmp prefix_total es p keeps.sound.rising;
         slots = AllByRecursion-without prefix_cmp IsSlot es p keeps.sound.slots;
       };
       adv = part-without-same (λ s. s.adv) es p keeps.sound.rising none ∙ keeps.adv;
-      gone = λ span a. AllInSpan-without is_gone span span es p (λ q inside. inside) (keeps.gone span a);
-      fresh = λ span a. AllInSpan-without is_fresh span span es p (λ q inside. inside) (keeps.fresh span a);
+      others = keys_where-without-same is_fresh es p keeps.sound.rising not_fresh ∙ keeps.others;
     } in
-    subst (λ (l : Slots). Keeps old l) (sym done) all
+    subst (λ (l : Slots). Keeps is_fresh old l) (sym done) all
+
+-- what is kept of the prefixes that wait, without the first
+pub has-without : (before after : Waiting) (es new : Slots) (p : Prefix) → IsRising prefix_cmp es
+    → first_of (keys_where is_gone es) ≡ Some p → Has before (keys_where is_gone es)
+    → ((q : Prefix) (ps : List Prefix) → Has before (q ∷ ps) → Has after ps)
+    → new ≡ without prefix_cmp es p → Has after (keys_where is_gone new)
+has-without before after es new p rising is has first done =
+    subst (λ (l : Slots). Has after (keys_where is_gone l)) (sym done)
+    (first p (keys_where is_gone (without prefix_cmp es p))
+    (subst (Has before) (keys_where-without is_gone es p rising is) has))
 
 -- and fewer prefixes wait
 pub fewer-without : (es new : Slots) (p : Prefix) → IsRising prefix_cmp es → first_of (keys_where is_gone es) ≡ Some p
@@ -174,18 +191,16 @@ shape-withdrawing old new p shape more =
     ∙ ap (λ l. record withdrawing { prefixes = l }) (sym (ap (λ (x : Packed). x.prefixes) more))
 
 -- a loop that withdraws, after one prefix more
-pub more_withdrawn : (old es new : Slots) (p first : Prefix) (packed after : Packed) → Keeps old es
-    → first_of (keys_where is_gone es) ≡ Some first
+pub more_withdrawn : (old es new : Slots) (p : Prefix) (packed after : Packed) → Keeps is_fresh old es
+    → first_of (keys_where is_gone es) ≡ Some p
     → packed ≡ record withdrawing { prefixes = packed.prefixes }
     → withdrawal_from packed.prefixes es ≡ withdrawal_from [] old
-    → length (packed_message (with_prefix packed p)) ≤ MAX_MESSAGE → p ≡ first → after ≡ with_prefix packed p
-    → new ≡ without prefix_cmp es first → withdrawal_from after.prefixes new ≡ withdrawal_from [] old
-more_withdrawn old es new p first packed after keeps is shape whole fits same more done =
+    → length (packed_message (with_prefix packed p)) ≤ MAX_MESSAGE → after ≡ with_prefix packed p
+    → new ≡ without prefix_cmp es p → withdrawal_from after.prefixes new ≡ withdrawal_from [] old
+more_withdrawn old es new p packed after keeps is shape whole fits more done =
     let kind : packed.withdraws ≡ true = ap (λ (x : Packed). x.withdraws) shape in
-    let short = subst (λ (q : Prefix). length (packed_message (with_prefix packed q)) ≤ MAX_MESSAGE) same fits in
     ap (λ (x : Packed). withdrawal_from x.prefixes new) more
-    ∙ ap (λ q. withdrawal_from (packed.prefixes ++ prefix_octets q) new) same
-    ∙ sym (withdrawal_from-more es new first packed kind keeps.sound.rising is short done) ∙ whole
+    ∙ sym (withdrawal_from-more es new p packed kind keeps.sound.rising is fits done) ∙ whole
 
 -- a prefix that waits to be announced has a section, which was not told
 fresh_is : (s : Slot) → is_fresh s ≡ true → (x : List ℕ) × (s.adv ≡ Some x)
@@ -242,26 +257,25 @@ retold-some : (es : Slots) (p : Prefix) (s : Slot) → value_at prefix_cmp es p 
     → retold es p (value_at prefix_cmp es p) ≡ with_value prefix_cmp es p (record s { told = s.adv })
 retold-some es p s there = ap (retold es p) there
 
-pub keeps-retold : (old es new : Slots) (p : Prefix) → Keeps old es → first_of (keys_where is_fresh es) ≡ Some p
-    → new ≡ retold es p (value_at prefix_cmp es p) → Keeps old new
+pub keeps-retold : (old es new : Slots) (p : Prefix) → Keeps is_gone old es
+    → first_of (keys_where is_fresh es) ≡ Some p
+    → new ≡ retold es p (value_at prefix_cmp es p) → Keeps is_gone old new
 keeps-retold old es new p keeps is done =
     let f = first-fresh es p keeps.sound.rising is in
     let s = f.0 in
     let slot : Slot = record s { told = s.adv } in
     let held = value_at-some prefix_cmp IsSlot es p s keeps.sound.slots f.2 in
     let some = some_slot s.adv f.1 f.3 in
-    let gone : is_gone slot ≡ false = ap is_none f.3 in
-    let told = retold-fresh s f.1 f.3 in
-    let all : Keeps old (with_value prefix_cmp es p slot) = record {
+    let gone : is_gone s ≡ false = ap is_none f.3 in
+    let here : IfSome (value_at prefix_cmp es p) (λ r. is_gone r ≡ false) =
+    subst (λ (o : Option Slot). IfSome o (λ r. is_gone r ≡ false)) (sym f.2) gone in
+    let all : Keeps is_gone old (with_value prefix_cmp es p slot) = record {
       sound = written_is_sound es p slot keeps.sound (λ q. retold_is_slot (held.0, s) q held.2 some);
       adv = part-with_value-same (λ s. s.adv) es p slot keeps.sound.rising
           (ap (option_and_then (λ (s : Slot). s.adv)) f.2) ∙ keeps.adv;
-      gone = λ span a. AllInSpan-with_value is_gone span span es p slot (λ q inside. inside)
-          (λ t. absurd (cc (t, gone))) (keeps.gone span a);
-      fresh = λ span a. AllInSpan-with_value is_fresh span span es p slot (λ q inside. inside)
-          (λ t. absurd (cc (t, told))) (keeps.fresh span a);
+      others = keys_where-with_value-same is_gone es p slot keeps.sound.rising here gone ∙ keeps.others;
     } in
-    subst (λ (l : Slots). Keeps old l) (sym (done ∙ retold-some es p s f.2)) all
+    subst (λ (l : Slots). Keeps is_gone old l) (sym (done ∙ retold-some es p s f.2)) all
 
 keys-retold : (es : Slots) (p : Prefix) → IsRising prefix_cmp es → first_of (keys_where is_fresh es) ≡ Some p
     → keys_where is_fresh es ≡ p ∷ keys_where is_fresh (retold es p (value_at prefix_cmp es p))
@@ -270,6 +284,15 @@ keys-retold es p rising is =
     let s = f.0 in
     keys_where-with_value is_fresh es p (record s { told = s.adv }) rising is (retold-fresh s f.1 f.3)
     ∙ ap (λ (l : Slots). p ∷ keys_where is_fresh l) (sym (retold-some es p s f.2))
+
+pub has-retold : (before after : Waiting) (es new : Slots) (p : Prefix) → IsRising prefix_cmp es
+    → first_of (keys_where is_fresh es) ≡ Some p → Has before (keys_where is_fresh es)
+    → ((q : Prefix) (ps : List Prefix) → Has before (q ∷ ps) → Has after ps)
+    → new ≡ retold es p (value_at prefix_cmp es p) → Has after (keys_where is_fresh new)
+has-retold before after es new p rising is has first done =
+    subst (λ (l : Slots). Has after (keys_where is_fresh l)) (sym done)
+    (first p (keys_where is_fresh (retold es p (value_at prefix_cmp es p)))
+    (subst (Has before) (keys-retold es p rising is) has))
 
 pub fewer-retold : (es new : Slots) (p : Prefix) → IsRising prefix_cmp es → first_of (keys_where is_fresh es) ≡ Some p
     → new ≡ retold es p (value_at prefix_cmp es p) → length (keys_where is_fresh new) < length (keys_where is_fresh es)
@@ -408,16 +431,14 @@ shape-announcing old new s p shape more =
     ∙ ap (λ l. record (announcing s) { prefixes = l }) (sym (ap (λ (x : Packed). x.prefixes) more))
 
 -- a loop that announces, after one prefix more
-pub more_announced : (old es new : Slots) (p first : Prefix) (s : List ℕ) (packed after : Packed) → Keeps old es
-    → first_of (keys_where is_fresh es) ≡ Some first
+pub more_announced : (old es new : Slots) (p : Prefix) (s : List ℕ) (packed after : Packed) → Keeps is_gone old es
+    → first_of (keys_where is_fresh es) ≡ Some p
     → packed ≡ record (announcing s) { prefixes = packed.prefixes }
     → announcement_from s packed.prefixes es ≡ announcement_from s [] old
-    → bytes_eq (section_of (adv_in es) first) s ≡ true
-    → length (packed_message (with_prefix packed p)) ≤ MAX_MESSAGE → p ≡ first → after ≡ with_prefix packed p
-    → new ≡ retold es first (value_at prefix_cmp es first)
+    → bytes_eq (section_of (adv_in es) p) s ≡ true
+    → length (packed_message (with_prefix packed p)) ≤ MAX_MESSAGE → after ≡ with_prefix packed p
+    → new ≡ retold es p (value_at prefix_cmp es p)
     → announcement_from s after.prefixes new ≡ announcement_from s [] old
-more_announced old es new p first s packed after keeps is shape whole goes fits same more done =
-    let short = subst (λ (q : Prefix). length (packed_message (with_prefix packed q)) ≤ MAX_MESSAGE) same fits in
+more_announced old es new p s packed after keeps is shape whole goes fits more done =
     ap (λ (x : Packed). announcement_from s x.prefixes new) more
-    ∙ ap (λ q. announcement_from s (packed.prefixes ++ prefix_octets q) new) same
-    ∙ sym (announcement_from-more es new first s packed shape keeps.sound.rising is goes short done) ∙ whole
+    ∙ sym (announcement_from-more es new p s packed shape keeps.sound.rising is goes fits done) ∙ whole

@@ -1,27 +1,35 @@
 -- Slots by rising prefix: what one part of them has after a look-up, a write and a removal, and the prefixes whose
 -- slots pass a test.
 use Rattle.std.proofs.Common.{◌≡◌, ℕ, Bool, true, false, inl, inr, List, [], ◌∷◌, Option, Some, None, refl, sym, ◌∙◌}
-use Rattle.std.proofs.Common.{ap, subst, find, is_some, Bor}
+use Rattle.std.proofs.Common.{ap, subst, find, is_some, Bor, cond}
 use Rattle.std.specs.BTreeMap.{is_at}
-use Rattle.std.specs.BTreeMap.Range.{entries_between}
-use Rattle.std.specs.Map.{set_value}
+use Rattle.std.specs.BTreeMap.Range.{entries_between, IsLeBy}
+use Rattle.std.specs.BTreeSet.{insert_key}
+use Rattle.std.specs.List.{AllByRecursion}
+use Rattle.std.specs.List.Sorted.{IsStrictlySortedBy}
+use Rattle.std.specs.Map.{set_value, keys_of}
 use Rattle.std.specs.Map.Iter.{deref_pair}
-use Rattle.std.specs.Option.{option_map, option_and_then}
-use Rattle.std.specs.Ordering.{is_lt, is_le, is_eq}
+use Rattle.std.specs.Option.{option_map, option_and_then, IfSome}
+use Rattle.std.specs.Ordering.{is_lt, is_le, is_eq, is_gt}
+use Rattle.std.specs.Result.{OnErr}
+use Rattle.std.specs.Set.{remove_key}
+use Rattle.std.specs.declared.result.Result.{Result}
+use Rattle.std.specs.declared.result.Result.TheVariants.{Ok, Err}
+use Rattle.std.specs.declared.cmp.Ordering.{Ordering}
 use Rattle.std.specs.declared.cmp.Ordering.TheVariants.{Less, Equal, Greater}
 use Rattle.std.specs.declared.ops.Bound.TheVariants.{Included, Excluded, Unbounded}
-use Rattle.std.proofs.lemmas.Bool.{cases_Bool, and_parts, and_from}
+use Rattle.std.proofs.lemmas.Bool.{cases_Bool}
 use Rattle.std.proofs.lemmas.Cmp.{tied_itself}
 use Rattle.xb_words.specs.Table.{value_at, with_value, without, entries_after, entry_after, first_of, IsRising}
-use Rattle.xb_words.proofs.TableLemmas.{AllByRecursion-with_value, without-absent}
+use Rattle.xb_words.proofs.TableLemmas.{without-absent}
 use Rattle.xb_words.proofs.TableSplitLemmas.{Each, IsRising-head, IsRising-tail, IsRising-cons, Each-trans, Each-congr}
 use Rattle.xb_words.proofs.TableSplitLemmas.{value_at-above}
 use Rattle.xb_values.specs.Prefixes.{Prefix, Sections, prefix_cmp}
 use Rattle.xb_values.proofs.PrefixLemmas.{prefix_total, prefix_exact}
 use Rattle.bgp_write.specs.Pending.{section_of}
 use Rattle.bgp_write.proofs.SetLemmas.{by_ordering}
-use Rattle.out_sorted.specs.Spans.{Span, is_within}
-use Rattle.out_sorted.specs.Slots.{Slot, Slots, adv_in, part, with_front, without_adv, keys_where, AllInSpan}
+use Rattle.out_sorted.specs.Waits.{with_wait}
+use Rattle.out_sorted.specs.Slots.{Slot, Slots, adv_in, part, with_front, without_adv, keys_where}
 
 -- every key is after a prefix
 abbrev pub Above : {X : Type 0} → Prefix → List (Prefix × X) → Type 0
@@ -53,7 +61,7 @@ found_later e es p x rising there = by_ordering (prefix_cmp p e.0)
     (λ g. g)
 
 -- a write of the value that is there changes nothing
-with_value-same : {X : Type 0} (t : List (Prefix × X)) (p : Prefix) (x : X) → IsRising prefix_cmp t
+pub with_value-same : {X : Type 0} (t : List (Prefix × X)) (p : Prefix) (x : X) → IsRising prefix_cmp t
     → value_at prefix_cmp t p ≡ Some x → with_value prefix_cmp t p x ≡ t
 with_value-same [] p x rising there = absurd (cc there)
 with_value-same (e ∷ t) p x rising there = by_ordering (prefix_cmp p e.0)
@@ -201,11 +209,27 @@ set_value-with_value (e ∷ es) p old new rising there = by_ordering (prefix_cmp
     (λ g. rw g (ap (λ (l : List (Prefix × _)). e ∷ l)
     (set_value-with_value es p old new (tail_of e es rising) (rw g at there))))
 
+pub set_value-same : {X : Type 0} (es : List (Prefix × X)) (p : Prefix) (x : X) → IsRising prefix_cmp es
+    → value_at prefix_cmp es p ≡ Some x → set_value (is_at (prefix_cmp p)) es x ≡ es
+set_value-same es p x rising there =
+    set_value-with_value es p x x rising there ∙ with_value-same es p x rising there
+
+-- what holds in any case holds of an error
+pub on_err : {T E P : Type 0} (r : Result T E) → P → OnErr r P
+on_err (Ok x) holds = tt
+on_err (Err x) holds = holds
+
 -- a slot that was told stays when it is advertised no longer
 pub without_adv-told : (es : Slots) (p : Prefix) (told : Option (List ℕ)) → is_some told ≡ true
     → with_value prefix_cmp es p (record { adv = None; told = told }) ≡ without_adv es p told
 without_adv-told es p None some = absurd (cc some)
 without_adv-told es p (Some t) some = refl
+
+-- and any other goes
+pub without_adv-fresh : (es : Slots) (p : Prefix) (told : Option (List ℕ)) → is_some told ≡ false
+    → without prefix_cmp es p ≡ without_adv es p told
+without_adv-fresh es p None none = refl
+without_adv-fresh es p (Some t) none = absurd (cc none)
 
 -- the section with which a prefix is advertised
 pub section_of-some : (es : Slots) (p : Prefix) (s : Slot) (x : List ℕ) → IsRising prefix_cmp es
@@ -273,96 +297,117 @@ keys_where-with_value test (e ∷ es) p s rising is new = elim (cases_Bool (test
       rw (past, fails) (keys_where-with_value test es p s tail there new)
 ]
 
--- a search in a span finds it
-pub first-in_span : (test : Slot → Bool) (span : Span) (es : Slots) → AllInSpan test (Some span) es
-    → option_map (λ e. e.0) (find (λ e. test e.1)
-    (entries_between prefix_cmp (Included span.first) (Included span.last) es)) ≡ first_of (keys_where test es)
-first-in_span test span [] all = refl
-first-in_span test span (e ∷ es) all = elim (cases_Bool (test e.1)) [
-  | inl passes ↦ rw (all.0 passes, passes) refl
-  | inr fails ↦ elim (cases_Bool (is_within (Some span) e.0)) [
-    | inl inside ↦ rw (inside, fails) (first-in_span test span es all.1)
-    | inr outside ↦ rw (outside, fails) (first-in_span test span es all.1)
-  ]
+-- the prefixes whose slots pass a test are the keys of a part
+abbrev marked : (Slot → Bool) → Slot → Option (List ℕ)
+marked test s = cond (test s) (Some []) None
+
+keys_of-part : (test : Slot → Bool) (es : Slots) → keys_of (part (marked test) es) ≡ keys_where test es
+keys_of-part test [] = refl
+keys_of-part test (e ∷ es) = elim (cases_Bool (test e.1)) [
+  | inl passes ↦ rw passes (ap (λ (l : List Prefix). e.0 ∷ l) (keys_of-part test es))
+  | inr fails ↦ rw fails (keys_of-part test es)
+]
+
+keys_of-with_value : {X : Type 0} (t : List (Prefix × X)) (p : Prefix) (x : X)
+    → keys_of (with_value prefix_cmp t p x) ≡ insert_key prefix_cmp (keys_of t) p
+keys_of-with_value [] p x = refl
+keys_of-with_value (e ∷ t) p x = by_ordering (prefix_cmp p e.0) (λ l. rw l refl) (λ q. rw q refl)
+    (λ g. rw g (ap (λ (l : List Prefix). e.0 ∷ l) (keys_of-with_value t p x)))
+
+keys_of-without : {X : Type 0} (t : List (Prefix × X)) (p : Prefix)
+    → keys_of (without prefix_cmp t p) ≡ remove_key (is_at (prefix_cmp p)) (keys_of t)
+keys_of-without [] p = refl
+keys_of-without (e ∷ t) p = elim (cases_Bool (is_at (prefix_cmp p) e.0)) [
+  | inl here ↦ rw here refl
+  | inr other ↦ rw other (ap (λ (l : List Prefix). e.0 ∷ l) (keys_of-without t p))
+]
+
+-- they rise
+pub IsStrictlySortedBy-keys_where : (test : Slot → Bool) (es : Slots) → IsRising prefix_cmp es
+    → IsStrictlySortedBy prefix_cmp (keys_where test es)
+IsStrictlySortedBy-keys_where test es rising =
+    subst (λ (l : List Prefix). IsStrictlySortedBy prefix_cmp l) (keys_of-part test es)
+    (IsRising-part (marked test) es rising)
+
+-- after a write there is one more or one less, as the slot passes
+pub keys_where-written : (test : Slot → Bool) (es : Slots) (p : Prefix) (s : Slot) (passes : Bool)
+    → IsRising prefix_cmp es → test s ≡ passes
+    → keys_where test (with_value prefix_cmp es p s) ≡ with_wait (keys_where test es) p passes
+keys_where-written test es p s true rising is =
+    sym (keys_of-part test (with_value prefix_cmp es p s))
+    ∙ ap keys_of (part-with_value-some (marked test) es p s [] rising (rw is refl))
+    ∙ keys_of-with_value (part (marked test) es) p []
+    ∙ ap (λ (l : List Prefix). insert_key prefix_cmp l p) (keys_of-part test es)
+keys_where-written test es p s false rising is =
+    sym (keys_of-part test (with_value prefix_cmp es p s))
+    ∙ ap keys_of (part-with_value-none (marked test) es p s rising (rw is refl))
+    ∙ keys_of-without (part (marked test) es) p
+    ∙ ap (remove_key (is_at (prefix_cmp p))) (keys_of-part test es)
+
+-- and after a removal one less
+pub keys_where-removed : (test : Slot → Bool) (es : Slots) (p : Prefix) → IsRising prefix_cmp es
+    → keys_where test (without prefix_cmp es p) ≡ with_wait (keys_where test es) p false
+keys_where-removed test es p rising =
+    sym (keys_of-part test (without prefix_cmp es p))
+    ∙ ap keys_of (part-without (marked test) es p rising)
+    ∙ keys_of-without (part (marked test) es) p
+    ∙ ap (remove_key (is_at (prefix_cmp p))) (keys_of-part test es)
+
+-- or the same, if the prefix had no slot that passes
+not_marked : (test : Slot → Bool) (o : Option Slot) → IfSome o (λ s. test s ≡ false)
+    → option_and_then (marked test) o ≡ None
+not_marked test None fails = refl
+not_marked test (Some s) fails = rw fails refl
+
+pub keys_where-with_value-same : (test : Slot → Bool) (es : Slots) (p : Prefix) (s : Slot) → IsRising prefix_cmp es
+    → IfSome (value_at prefix_cmp es p) (λ r. test r ≡ false) → test s ≡ false
+    → keys_where test (with_value prefix_cmp es p s) ≡ keys_where test es
+keys_where-with_value-same test es p s rising old new =
+    let none : marked test s ≡ None = rw new refl in
+    sym (keys_of-part test (with_value prefix_cmp es p s))
+    ∙ ap keys_of (part-with_value-same (marked test) es p s rising
+    (not_marked test (value_at prefix_cmp es p) old ∙ sym none))
+    ∙ keys_of-part test es
+
+pub keys_where-without-same : (test : Slot → Bool) (es : Slots) (p : Prefix) → IsRising prefix_cmp es
+    → IfSome (value_at prefix_cmp es p) (λ r. test r ≡ false)
+    → keys_where test (without prefix_cmp es p) ≡ keys_where test es
+keys_where-without-same test es p rising old =
+    sym (keys_of-part test (without prefix_cmp es p))
+    ∙ ap keys_of (part-without-same (marked test) es p rising (not_marked test (value_at prefix_cmp es p) old))
+    ∙ keys_of-part test es
+
+-- a search finds the first, if none is before the prefix at which it begins
+is_le-not_gt : (r : Ordering) → is_gt r ≡ false → is_le r ≡ true
+is_le-not_gt Less not_gt = refl
+is_le-not_gt Equal not_gt = refl
+is_le-not_gt Greater not_gt = absurd (cc not_gt)
+
+first-from : (test : Slot → Bool) (from : Prefix) (es : Slots)
+    → AllByRecursion (IsLeBy prefix_cmp from) (keys_where test es)
+    → option_map (λ e. e.0) (find (λ e. test e.1) (entries_between prefix_cmp (Included from) Unbounded es))
+    ≡ first_of (keys_where test es)
+first-from test from [] all = refl
+first-from test from (e ∷ es) all = elim (cases_Bool (test e.1)) [
+  | inl passes ↦
+      let here : AllByRecursion (IsLeBy prefix_cmp from) (e.0 ∷ keys_where test es) = rw passes at all in
+      rw (is_le-not_gt (prefix_cmp from e.0) here.0, passes) refl
+  | inr fails ↦
+      let rest = first-from test from es (rw fails at all) in
+      elim (cases_Bool (is_le (prefix_cmp from e.0))) [
+        | inl inside ↦ rw (inside, fails) rest
+        | inr outside ↦ rw (outside, fails) rest
+      ]
 ]
 
 -- a search that lends what it finds
-pub first-lent : (test : Slot → Bool) (span : Span) (es : Slots) (found : Option (Bor Prefix × Bor Slot))
-    → AllInSpan test (Some span) es
+pub first-lent : (test : Slot → Bool) (from : Prefix) (es : Slots) (found : Option (Bor Prefix × Bor Slot))
+    → AllByRecursion (IsLeBy prefix_cmp from) (keys_where test es)
     → option_map deref_pair found
-    ≡ find (λ e. test e.1) (entries_between prefix_cmp (Included span.first) (Included span.last) es)
+    ≡ find (λ e. test e.1) (entries_between prefix_cmp (Included from) Unbounded es)
     → option_map (λ e. e.0.now) found ≡ first_of (keys_where test es)
-first-lent test span es None all is = ap (option_map (λ e. e.0)) is ∙ first-in_span test span es all
-first-lent test span es (Some f) all is = ap (option_map (λ e. e.0)) is ∙ first-in_span test span es all
-
--- it is in the span
-pub first-is_within : (test : Slot → Bool) (span : Option Span) (es : Slots) (p : Prefix)
-    → AllInSpan test span es → first_of (keys_where test es) ≡ Some p → is_within span p ≡ true
-first-is_within test span [] p all is = absurd (cc is)
-first-is_within test span (e ∷ es) p all is = elim (cases_Bool (test e.1)) [
-  | inl passes ↦
-      let key : e.0 ≡ p = cc (rw passes at is) in subst (λ (k : Prefix). is_within span k ≡ true) key (all.0 passes)
-  | inr fails ↦ first-is_within test span es p all.1 (rw fails at is)
-]
-
-narrowed : (test : Slot → Bool) (span : Span) (es : Slots) (p : Prefix) → AllInSpan test (Some span) es
-    → Above p es → AllInSpan test (Some (record span { first = p })) es
-narrowed test span [] p all above = tt
-narrowed test span (e ∷ es) p all above = (
-  λ passes. and_from _ _ (ap is_le above.0) (and_parts _ _ (all.0 passes)).1,
-  narrowed test span es p all.1 above.1,
-)
-
--- and the span may begin with it
-pub AllInSpan-from : (test : Slot → Bool) (span : Span) (es : Slots) (p : Prefix) → IsRising prefix_cmp es
-    → first_of (keys_where test es) ≡ Some p → AllInSpan test (Some span) es
-    → AllInSpan test (Some (record span { first = p })) es
-AllInSpan-from test span [] p rising is all = tt
-AllInSpan-from test span (e ∷ es) p rising is all = elim (cases_Bool (test e.1)) [
-  | inl passes ↦
-      let key : e.0 ≡ p = cc (rw passes at is) in
-      let here : AllInSpan test (Some (record span { first = e.0 })) (e ∷ es) = (
-        λ _. and_from _ _ (ap is_le (tied_itself prefix_total e.0)) (and_parts _ _ (all.0 passes)).1,
-        narrowed test span es e.0 all.1 (head_of e es rising),
-      ) in
-      subst (λ (k : Prefix). AllInSpan test (Some (record span { first = k })) (e ∷ es)) key here
-  | inr fails ↦ (
-    λ passes. absurd (cc (fails, passes)),
-    AllInSpan-from test span es p (tail_of e es rising) (rw fails at is) all.1,
-  )
-]
-
--- no span is needed if no slot passes
-pub AllInSpan-none : (test : Slot → Bool) (es : Slots) → first_of (keys_where test es) ≡ None → AllInSpan test None es
-AllInSpan-none test [] is = tt
-AllInSpan-none test (e ∷ es) is = elim (cases_Bool (test e.1)) [
-  | inl passes ↦ absurd (cc (rw passes at is))
-  | inr fails ↦ (λ passes. absurd (cc (fails, passes)), AllInSpan-none test es (rw fails at is))
-]
-
--- and none passes if there is no span
-pub first-no_span : (test : Slot → Bool) (es : Slots) → AllInSpan test None es → first_of (keys_where test es) ≡ None
-first-no_span test [] all = refl
-first-no_span test (e ∷ es) all = elim (cases_Bool (test e.1)) [
-  | inl passes ↦ absurd (cc (all.0 passes))
-  | inr fails ↦ rw fails (first-no_span test es all.1)
-]
-
--- a wider span has them all
-pub AllInSpan-wider : (test : Slot → Bool) (a b : Option Span) (es : Slots)
-    → ((p : Prefix) → is_within a p ≡ true → is_within b p ≡ true) → AllInSpan test a es → AllInSpan test b es
-AllInSpan-wider test a b [] wider all = tt
-AllInSpan-wider test a b (e ∷ es) wider all =
-    (λ passes. wider e.0 (all.0 passes), AllInSpan-wider test a b es wider all.1)
-
--- after a write of a slot, a span that has its prefix too, if it passes, has them all
-pub AllInSpan-with_value : (test : Slot → Bool) (a b : Option Span) (es : Slots) (p : Prefix) (s : Slot)
-    → ((q : Prefix) → is_within a q ≡ true → is_within b q ≡ true) → (test s ≡ true → is_within b p ≡ true)
-    → AllInSpan test a es → AllInSpan test b (with_value prefix_cmp es p s)
-AllInSpan-with_value test a b es p s wider here all =
-    AllByRecursion-with_value prefix_cmp (λ e. test e.1 ≡ true → is_within b e.0 ≡ true) es p s here
-    (λ e same _ passes. subst (λ (k : Prefix). is_within b k ≡ true) (prefix_exact p e.0 same) (here passes))
-    (AllInSpan-wider test a b es wider all)
+first-lent test from es None all is = ap (option_map (λ e. e.0)) is ∙ first-from test from es all
+first-lent test from es (Some f) all is = ap (option_map (λ e. e.0)) is ∙ first-from test from es all
 
 -- the first section of a part is that of the first slot that has one
 pub first-part : (f : Slot → Option (List ℕ)) (es : Slots)

@@ -1,4 +1,4 @@
 pub mod Told
-pub mod Spans
+pub mod Waits
 pub mod Slots
 pub mod Sending

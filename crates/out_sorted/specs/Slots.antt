@@ -9,9 +9,10 @@ use Rattle.xb_values.specs.Prefixes.{Prefix, Sections, prefix_cmp}
 use Rattle.xb_wire.specs.declared.numbers.TheConstants.{MAX_SECTION}
 use Rattle.bgp_write.specs.Pending.{same_section}
 use Rattle.out_sorted.specs.Told.{Told}
-use Rattle.out_sorted.specs.Spans.{Span, is_within}
+use Rattle.out_sorted.specs.Waits.{Has}
 use Rattle.out_sorted.specs.declared.entry.State.{State}
 use Rattle.out_sorted.specs.declared.entry.State.TheVariants.{Known, Fresh, Changed, Gone}
+use Rattle.out_sorted.specs.declared.waiting.Waiting.{Waiting}
 
 -- the sections of one prefix, each of which may be absent
 pub record Slot : Type 0 where
@@ -66,10 +67,6 @@ is_fresh s = is_some s.adv && not (same_section s.adv s.told)
 abbrev pub keys_where : (Slot → Bool) → Slots → List Prefix
 keys_where test es = keys_of (filter (λ e. test e.1) es)
 
--- each prefix whose slot passes a test is in a span
-abbrev pub AllInSpan : (Slot → Bool) → Option Span → Slots → Type 0
-AllInSpan test span es = AllByRecursion (λ e. test e.1 ≡ true → is_within span e.0 ≡ true) es
-
 -- each prefix has a section, and an advertised one is short
 pub record IsSlot (e : Prefix × Slot) : Type 0 where
   pub some : is_some e.1.adv || is_some e.1.told ≡ true
@@ -81,17 +78,16 @@ pub record IsSound (es : Slots) : Type 0 where
   pub slots : AllByRecursion IsSlot es
 
 -- what the private fields keep
-pub record IsKept (gone_span fresh_span : Option Span) (es : Slots) : Type 0 where
+pub record IsKept (to_withdraw to_announce : Waiting) (es : Slots) : Type 0 where
   pub sound : IsSound es
-  pub gone : AllInSpan is_gone gone_span es
-  pub fresh : AllInSpan is_fresh fresh_span es
+  pub gone : Has to_withdraw (keys_where is_gone es)
+  pub fresh : Has to_announce (keys_where is_fresh es)
 
--- what a message leaves
-pub record Keeps (old new : Slots) : Type 0 where
+-- what a message leaves, beside the prefixes that it is about; others wait for another message
+pub record Keeps (waits : Slot → Bool) (old new : Slots) : Type 0 where
   pub sound : IsSound new
   pub adv : adv_in new ≡ adv_in old
-  pub gone : (span : Option Span) → AllInSpan is_gone span old → AllInSpan is_gone span new
-  pub fresh : (span : Option Span) → AllInSpan is_fresh span old → AllInSpan is_fresh span new
+  pub others : keys_where waits new ≡ keys_where waits old
 
 -- the slot of a prefix that is advertised with a section, in place of its slot before
 abbrev pub advertised : Option Slot → List ℕ → Slot

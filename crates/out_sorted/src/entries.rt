@@ -14,13 +14,14 @@ ghost use Rattle.bgp_write.specs.Packings.{announcing, withdrawing};
 ghost use Rattle.bgp_write.specs.Pending.{section_of};
 ghost use Rattle.bgp_write.specs.Written.{Replaces};
 ghost use Rattle.out_sorted.specs.Slots.{adv_in, told_in, advertised, is_fresh, is_gone, keys_where, retold};
-ghost use Rattle.out_sorted.specs.Slots.{taken_back, was_told, AllInSpan, IsSound, Keeps};
+ghost use Rattle.out_sorted.specs.Slots.{taken_back, was_told, IsSound, Keeps};
+ghost use Rattle.out_sorted.specs.Waits.{Has};
 ghost use Rattle.out_sorted.specs.Sending.{announcement_from, formed_by, withdrawal_from};
 
 use crate::entry::Entry;
-use crate::span::Span;
+use crate::waiting::Waiting;
 use bgp_write::Packer;
-use std::alloc::AllocError;
+use std::alloc::{AllocError, Global};
 use std::collections::BTreeMap;
 use std::ops::Bound;
 use xb_values::{Buf, Prefix};
@@ -28,23 +29,25 @@ use xb_wire::numbers::MAX_MESSAGE;
 
 pub(crate) type Entries = BTreeMap<Prefix, Entry>;
 
-/// Advertises a section. Whether the prefix then waits to be announced is returned.
+/// Advertises a section. Whether the prefix then waits to be announced is returned. The error is want of memory; then
+/// nothing changed.
 pub(crate) fn put(
     entries: &mut Entries,
+    alloc: Global,
     prefix: Prefix,
-    section: Vec<u8>,
+    section: &[u8],
 ) -> Result<bool, AllocError>
     ensures ok { OnOk result (entries.new.entries ≡ with_value prefix_cmp entries.old.entries prefix
-        (advertised (value_at prefix_cmp entries.old.entries prefix) section.items)) }
+        (advertised (value_at prefix_cmp entries.old.entries prefix) section.now)) }
     ensures waits { IfOk result (λ waits. waits
-        ≡ is_fresh (advertised (value_at prefix_cmp entries.old.entries prefix) section.items)) }
+        ≡ is_fresh (advertised (value_at prefix_cmp entries.old.entries prefix) section.now)) }
     ensures err { OnErr result (entries.new.entries ≡ entries.old.entries) }
 {
     let Some(entry) = entries.get_mut(&prefix) else {
-        let _ = entries.insert(prefix, Entry::fresh(section))?;
+        let _ = entries.insert(prefix, Entry::fresh(alloc, section)?)?;
         return Ok(true);
     };
-    entry.set(section);
+    entry.set(alloc, section)?;
     Ok(entry.is_fresh())
 }
 
@@ -54,17 +57,15 @@ pub(crate) fn take_back(entries: &mut Entries, prefix: Prefix) -> bool
         ≡ taken_back entries.old.entries prefix (value_at prefix_cmp entries.old.entries prefix) }
     ensures waits { result ≡ was_told (value_at prefix_cmp entries.old.entries prefix) }
 {
-    let Some(entry) = entries.get(&prefix) else {
+    let Some(entry) = entries.get_mut(&prefix) else {
         return false;
     };
-    if !entry.is_told() {
-        let _ = entries.remove(&prefix);
-        return false;
-    }
-    if let Some(entry) = entries.get_mut(&prefix) {
+    if entry.is_told() {
         entry.unset();
+        return true;
     }
-    true
+    forget(entries, prefix);
+    false
 }
 
 // Forgets a prefix.
@@ -85,48 +86,78 @@ fn tell(entries: &mut Entries, prefix: Prefix)
     }
 }
 
-// The first entry of a span that waits to be withdrawn.
-fn find_gone(entries: &Entries, span: Span) -> Option<(&Prefix, &Entry)>
-    ensures found { option_map deref_pair result ≡ find (λ e. is_gone e.1)
-        (entries_between prefix_cmp (Included span.first) (Included span.last) entries.now.entries) }
-    ensures rising { IsRising prefix_cmp entries.now.entries }
+// The first entry from a prefix on that waits to be withdrawn.
+fn find_gone(entries: &Entries, from: Prefix) -> Option<(&Prefix, &Entry)>
+    ensures { option_map deref_pair result
+        ≡ find (λ e. is_gone e.1) (entries_between prefix_cmp (Included from) Unbounded entries.now.entries) }
 {
     entries
-        .range((Bound::Included(span.first()), Bound::Included(span.last())))
+        .range((Bound::Included(from), Bound::Unbounded))
         .find(|e| e.1.is_gone())
 }
 
-/// The part of a span from the first prefix that waits to be withdrawn. None waits outside the span.
-pub(crate) fn first_gone(entries: &Entries, span: Option<Span>) -> Option<Span>
-    requires { AllInSpan is_gone span entries.now.entries }
-    ensures first { option_map (λ s. s.first) result ≡ first_in (keys_where is_gone entries.now.entries) }
-    ensures span { AllInSpan is_gone result entries.now.entries }
+/// The first prefix that waits to be withdrawn.
+pub(crate) fn first_gone(entries: &Entries, gone: &Waiting) -> Option<Prefix>
+    requires { Has gone.now (keys_where is_gone entries.now.entries) }
+    ensures { result ≡ first_in (keys_where is_gone entries.now.entries) }
 {
-    let span = span?;
-    let (prefix, _) = find_gone(entries, span)?;
-    Some(span.from(*prefix))
+    let Some(from) = gone.from() else {
+        return gone.first_known();
+    };
+    let (prefix, _) = find_gone(entries, from)?;
+    Some(*prefix)
 }
 
-// The first entry of a span that waits to be announced.
-fn find_fresh(entries: &Entries, span: Span) -> Option<(&Prefix, &Entry)>
-    ensures found { option_map deref_pair result ≡ find (λ e. is_fresh e.1)
-        (entries_between prefix_cmp (Included span.first) (Included span.last) entries.now.entries) }
-    ensures rising { IsRising prefix_cmp entries.now.entries }
+/// The first prefix that waits to be withdrawn, at which the next search begins.
+pub(crate) fn next_gone(entries: &Entries, gone: &mut Waiting) -> Option<Prefix>
+    requires rising { IsRising prefix_cmp entries.now.entries }
+    requires waits { Has gone.old (keys_where is_gone entries.now.entries) }
+    ensures first { result ≡ first_in (keys_where is_gone entries.now.entries) }
+    ensures waits { Has gone.new (keys_where is_gone entries.now.entries) }
+{
+    let Some(first) = first_gone(entries, gone) else {
+        gone.start_at(None);
+        return None;
+    };
+    gone.start_at(Some(first));
+    Some(first)
+}
+
+// The first entry from a prefix on that waits to be announced.
+fn find_fresh(entries: &Entries, from: Prefix) -> Option<(&Prefix, &Entry)>
+    ensures { option_map deref_pair result
+        ≡ find (λ e. is_fresh e.1) (entries_between prefix_cmp (Included from) Unbounded entries.now.entries) }
 {
     entries
-        .range((Bound::Included(span.first()), Bound::Included(span.last())))
+        .range((Bound::Included(from), Bound::Unbounded))
         .find(|e| e.1.is_fresh())
 }
 
-/// The part of a span from the first prefix that waits to be announced. None waits outside the span.
-pub(crate) fn first_fresh(entries: &Entries, span: Option<Span>) -> Option<Span>
-    requires { AllInSpan is_fresh span entries.now.entries }
-    ensures first { option_map (λ s. s.first) result ≡ first_in (keys_where is_fresh entries.now.entries) }
-    ensures span { AllInSpan is_fresh result entries.now.entries }
+/// The first prefix that waits to be announced.
+pub(crate) fn first_fresh(entries: &Entries, fresh: &Waiting) -> Option<Prefix>
+    requires { Has fresh.now (keys_where is_fresh entries.now.entries) }
+    ensures { result ≡ first_in (keys_where is_fresh entries.now.entries) }
 {
-    let span = span?;
-    let (prefix, _) = find_fresh(entries, span)?;
-    Some(span.from(*prefix))
+    let Some(from) = fresh.from() else {
+        return fresh.first_known();
+    };
+    let (prefix, _) = find_fresh(entries, from)?;
+    Some(*prefix)
+}
+
+/// The first prefix that waits to be announced, at which the next search begins.
+pub(crate) fn next_fresh(entries: &Entries, fresh: &mut Waiting) -> Option<Prefix>
+    requires rising { IsRising prefix_cmp entries.now.entries }
+    requires waits { Has fresh.old (keys_where is_fresh entries.now.entries) }
+    ensures first { result ≡ first_in (keys_where is_fresh entries.now.entries) }
+    ensures waits { Has fresh.new (keys_where is_fresh entries.now.entries) }
+{
+    let Some(first) = first_fresh(entries, fresh) else {
+        fresh.start_at(None);
+        return None;
+    };
+    fresh.start_at(Some(first));
+    Some(first)
 }
 
 // The first advertised entry.
@@ -184,99 +215,109 @@ fn section_at(entries: &Entries, prefix: Prefix) -> &[u8]
     }
 }
 
-// Whether the first prefixes of two spans are advertised with the same section.
-fn is_with(entries: &Entries, left: Span, span: Span) -> bool
+// Whether two prefixes are advertised with the same section.
+fn is_with(entries: &Entries, left: Prefix, right: Prefix) -> bool
     requires { IsRising prefix_cmp entries.now.entries }
-    ensures { result ≡ bytes_eq (section_of (adv_in entries.now.entries) left.first)
-        (section_of (adv_in entries.now.entries) span.first) }
+    ensures { result ≡ bytes_eq (section_of (adv_in entries.now.entries) left)
+        (section_of (adv_in entries.now.entries) right) }
 {
-    section_at(entries, left.first()) == section_at(entries, span.first())
+    left == right || section_at(entries, left) == section_at(entries, right)
 }
 
-// Packs the prefixes that wait to be withdrawn, as far as the message has room. The span of those that are left is
-// returned.
-fn pack_withdrawals(entries: &mut Entries, packer: &mut Packer<'_>, span: Span) -> Option<Span>
+// Packs the prefixes that wait to be withdrawn, from the first on, as far as the message has room.
+fn pack_withdrawals(
+    entries: &mut Entries,
+    gone: &mut Waiting,
+    packer: &mut Packer<'_>,
+    first: Prefix,
+)
     requires sound { IsSound entries.old.entries }
-    requires first { Some span.first ≡ first_in (keys_where is_gone entries.old.entries) }
-    requires span { AllInSpan is_gone (Some span) entries.old.entries }
+    requires waits { Has gone.old (keys_where is_gone entries.old.entries) }
+    requires first { Some first ≡ first_in (keys_where is_gone entries.old.entries) }
     requires packer { packed_so_far packer.old ≡ withdrawing }
-    ensures keeps { Keeps entries.old.entries entries.new.entries }
-    ensures span { AllInSpan is_gone result entries.new.entries }
+    ensures keeps { Keeps is_fresh entries.old.entries entries.new.entries }
+    ensures waits { Has gone.new (keys_where is_gone entries.new.entries) }
     ensures formed { formed_by (packed_so_far packer.new) entries.new.entries
         ≡ withdrawal_from [] entries.old.entries }
     ensures same_reference { reference_of packer.new ≡ reference_of packer.old }
     ensures capacity { (buffer_of packer.new).capacity ≡ (buffer_of packer.old).capacity }
 {
-    let mut left = span;
-    'prefixes: while packer.push(left.first()) {
-        forget(entries, left.first());
-        left = first_gone(entries, Some(left))?;
+    let mut left = first;
+    'prefixes: while packer.push(left) {
+        forget(entries, left);
+        gone.remove_first();
+        let Some(next) = next_gone(entries, gone) else {
+            return;
+        };
+        left = next;
     }
-    Some(left)
 }
 
-// Packs the prefixes that wait to be announced, up to the first with another section than the first of all, as far as
-// the message has room. The span of those that are left is returned.
-fn pack_announcement(entries: &mut Entries, packer: &mut Packer<'_>, span: Span) -> Option<Span>
+// Packs the prefixes that wait to be announced, from the first on up to one with another section, as far as the message
+// has room.
+fn pack_announcement(
+    entries: &mut Entries,
+    fresh: &mut Waiting,
+    packer: &mut Packer<'_>,
+    first: Prefix,
+)
     requires sound { IsSound entries.old.entries }
-    requires first { Some span.first ≡ first_in (keys_where is_fresh entries.old.entries) }
-    requires span { AllInSpan is_fresh (Some span) entries.old.entries }
-    requires packer { packed_so_far packer.old ≡ announcing (section_of (adv_in entries.old.entries) span.first) }
-    ensures keeps { Keeps entries.old.entries entries.new.entries }
-    ensures span { AllInSpan is_fresh result entries.new.entries }
+    requires waits { Has fresh.old (keys_where is_fresh entries.old.entries) }
+    requires first { Some first ≡ first_in (keys_where is_fresh entries.old.entries) }
+    requires packer { packed_so_far packer.old ≡ announcing (section_of (adv_in entries.old.entries) first) }
+    ensures keeps { Keeps is_gone entries.old.entries entries.new.entries }
+    ensures waits { Has fresh.new (keys_where is_fresh entries.new.entries) }
     ensures formed { formed_by (packed_so_far packer.new) entries.new.entries
-        ≡ announcement_from (section_of (adv_in entries.old.entries) span.first) [] entries.old.entries }
+        ≡ announcement_from (section_of (adv_in entries.old.entries) first) [] entries.old.entries }
     ensures same_reference { reference_of packer.new ≡ reference_of packer.old }
     ensures capacity { (buffer_of packer.new).capacity ≡ (buffer_of packer.old).capacity }
 {
-    let mut left = span;
-    'prefixes: while is_with(entries, left, span) {
-        let prefix = left.first();
-        if !packer.push(prefix) {
-            return Some(left);
+    let mut left = first;
+    'prefixes: while is_with(entries, left, first) {
+        if !packer.push(left) {
+            return;
         }
-        tell(entries, prefix);
-        left = first_fresh(entries, Some(left))?;
+        tell(entries, left);
+        fresh.remove_first();
+        let Some(next) = next_fresh(entries, fresh) else {
+            return;
+        };
+        left = next;
     }
-    Some(left)
 }
 
-/// Writes the withdrawal of the prefixes of a span that wait for it, and forgets them. The span of those that are left
-/// is returned.
-pub(crate) fn withdraw(entries: &mut Entries, span: Span, out: &mut Buf) -> Option<Span>
+/// Writes the withdrawal of the prefixes that wait for it, from the first on, and forgets them.
+pub(crate) fn withdraw(entries: &mut Entries, gone: &mut Waiting, first: Prefix, out: &mut Buf)
     requires room { MAX_MESSAGE ≤ out.old.capacity }
     requires sound { IsSound entries.old.entries }
-    requires first { Some span.first ≡ first_in (keys_where is_gone entries.old.entries) }
-    requires span { AllInSpan is_gone (Some span) entries.old.entries }
-    ensures keeps { Keeps entries.old.entries entries.new.entries }
-    ensures span { AllInSpan is_gone result entries.new.entries }
+    requires waits { Has gone.old (keys_where is_gone entries.old.entries) }
+    requires first { Some first ≡ first_in (keys_where is_gone entries.old.entries) }
+    ensures keeps { Keeps is_fresh entries.old.entries entries.new.entries }
+    ensures waits { Has gone.new (keys_where is_gone entries.new.entries) }
     ensures told { told_in entries.new.entries ≡ (withdrawal_from [] entries.old.entries).told }
     ensures written { Replaces out.old out.new (withdrawal_from [] entries.old.entries).message }
     ensures message { IsMessage out.new.octets }
 {
     let mut packer = Packer::withdrawals(out);
-    let left = pack_withdrawals(entries, &mut packer, span);
+    pack_withdrawals(entries, gone, &mut packer, first);
     packer.finish();
-    left
 }
 
-/// Writes the announcement of the first prefixes of a span that wait for it and have one section. The span of those
-/// that are left is returned.
-pub(crate) fn announce(entries: &mut Entries, span: Span, out: &mut Buf) -> Option<Span>
+/// Writes the announcement of the first prefixes that wait for it and have one section.
+pub(crate) fn announce(entries: &mut Entries, fresh: &mut Waiting, first: Prefix, out: &mut Buf)
     requires room { MAX_MESSAGE ≤ out.old.capacity }
     requires sound { IsSound entries.old.entries }
-    requires first { Some span.first ≡ first_in (keys_where is_fresh entries.old.entries) }
-    requires span { AllInSpan is_fresh (Some span) entries.old.entries }
-    ensures keeps { Keeps entries.old.entries entries.new.entries }
-    ensures span { AllInSpan is_fresh result entries.new.entries }
-    ensures told { let section = section_of (adv_in entries.old.entries) span.first in
+    requires waits { Has fresh.old (keys_where is_fresh entries.old.entries) }
+    requires first { Some first ≡ first_in (keys_where is_fresh entries.old.entries) }
+    ensures keeps { Keeps is_gone entries.old.entries entries.new.entries }
+    ensures waits { Has fresh.new (keys_where is_fresh entries.new.entries) }
+    ensures told { let section = section_of (adv_in entries.old.entries) first in
         told_in entries.new.entries ≡ (announcement_from section [] entries.old.entries).told }
-    ensures written { let section = section_of (adv_in entries.old.entries) span.first in
+    ensures written { let section = section_of (adv_in entries.old.entries) first in
         Replaces out.old out.new (announcement_from section [] entries.old.entries).message }
     ensures message { IsMessage out.new.octets }
 {
-    let mut packer = Packer::announce(out, section_at(entries, span.first()));
-    let left = pack_announcement(entries, &mut packer, span);
+    let mut packer = Packer::announce(out, section_at(entries, first));
+    pack_announcement(entries, fresh, &mut packer, first);
     packer.finish();
-    left
 }

@@ -1,9 +1,10 @@
 // The sections of one prefix.
-ghost use Rattle.std.specs.Prelude.{◌≡◌, IsTrue, is_some, Some, None};
+ghost use Rattle.std.specs.Prelude.{◌≡◌, IsTrue, is_some, Some, None, false, IfOk, OnOk, OnErr};
 ghost use Rattle.std.specs.Option.{option_map};
 ghost use Rattle.bgp_write.specs.Pending.{same_section};
 ghost use Rattle.out_sorted.specs.Slots.{is_fresh, is_gone};
 
+use std::alloc::{AllocError, Global};
 use std::marker::Model;
 use std::mem;
 
@@ -34,15 +35,22 @@ impl Model for Entry {
     ghost invariant = { λ e. IsApart e.section.items e.state };
 }
 
+// A copy of a section. The error is want of memory.
+fn copy_of(alloc: Global, section: &[u8]) -> Result<Vec<u8>, AllocError>
+    ensures { IfOk result (λ v. v.items ≡ section.now) }
+{
+    section.to_vec(alloc)
+}
+
 impl Entry {
-    /// The entry of a prefix of which nothing was told.
-    pub(crate) fn fresh(section: Vec<u8>) -> Entry
-        ensures { result ≡ record { adv = Some section.items; told = None } }
+    /// The entry of a prefix of which nothing was told. The error is want of memory.
+    pub(crate) fn fresh(alloc: Global, section: &[u8]) -> Result<Entry, AllocError>
+        ensures { IfOk result (λ e. e ≡ record { adv = Some section.now; told = None }) }
     {
-        Entry {
-            section,
+        Ok(Entry {
+            section: copy_of(alloc, section)?,
             state: State::Fresh,
-        }
+        })
     }
 
     pub(crate) fn adv(&self) -> Option<&[u8]>
@@ -98,17 +106,51 @@ impl Entry {
         }
     }
 
-    /// Advertises a section.
-    pub(crate) fn set(&mut self, section: Vec<u8>)
+    fn is_advertised_as(&self, section: &[u8]) -> bool
+        ensures { result ≡ same_section (Some section.now) self.now.adv }
+    {
+        match self.adv() {
+            Some(adv) => section == adv,
+            None => false,
+        }
+    }
+
+    // Advertises what was told.
+    fn restore(&mut self)
+        requires { IsTrue (is_some self.old.told) }
+        ensures { self.new ≡ record self.old { adv = self.old.told } }
+    {
+        if let State::Changed(told) = mem::replace(&mut self.state, State::Known) {
+            self.section = told;
+        }
+    }
+
+    // Advertises a section that was not told.
+    fn change(&mut self, section: Vec<u8>)
+        requires { same_section (Some section.items) self.old.told ≡ false }
         ensures { self.new ≡ record self.old { adv = Some section.items } }
     {
-        let same = self.is_told_as(&section);
         let old = mem::replace(&mut self.section, section);
-        match self.state {
-            _ if same => self.state = State::Known,
-            State::Known | State::Gone => self.state = State::Changed(old),
-            _ => {}
+        if matches!(self.state, State::Known | State::Gone) {
+            self.state = State::Changed(old);
         }
+    }
+
+    /// Advertises a section. It is copied only if it is neither advertised nor told already. The error is want of
+    /// memory; then nothing changed.
+    pub(crate) fn set(&mut self, alloc: Global, section: &[u8]) -> Result<(), AllocError>
+        ensures ok { OnOk result (self.new ≡ record self.old { adv = Some section.now }) }
+        ensures err { OnErr result (self.new ≡ self.old) }
+    {
+        if self.is_advertised_as(section) {
+            return Ok(());
+        }
+        if self.is_told_as(section) {
+            self.restore();
+        } else {
+            self.change(copy_of(alloc, section)?);
+        }
+        Ok(())
     }
 
     /// Advertises nothing.

@@ -17,7 +17,7 @@
 
 mod entries;
 mod entry;
-mod span;
 mod table;
+mod waiting;
 
 pub use table::SortedOut;

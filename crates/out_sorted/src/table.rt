@@ -12,9 +12,10 @@ ghost use Rattle.bgp_write.specs.Written.{Replaces};
 ghost use Rattle.out_sorted.specs.Told.{told_after, written_after};
 
 use crate::entries::{
-    Entries, announce, first_after, first_fresh, first_gone, first_of, put, take_back, withdraw,
+    Entries, announce, first_after, first_fresh, first_gone, first_of, next_fresh, next_gone, put,
+    take_back, withdraw,
 };
-use crate::span::{Span, with_prefix};
+use crate::waiting::Waiting;
 use std::alloc::{AllocError, Global};
 use std::collections::BTreeMap;
 use std::marker::Model;
@@ -26,9 +27,9 @@ use xb_wire::numbers::{MAX_MESSAGE, MAX_SECTION};
 pub struct SortedOut {
     alloc: Global,
     entries: Entries,
-    // Spans with all prefixes that wait to be withdrawn, and with all that wait to be announced; without it none waits.
-    gone: Option<Span>,
-    fresh: Option<Span>,
+    // The prefixes that wait to be withdrawn, and those that wait to be announced.
+    gone: Waiting,
+    fresh: Waiting,
 }
 
 impl Model for SortedOut {
@@ -42,13 +43,6 @@ impl Model for SortedOut {
     ghost invariant = { λ t. IsKept t.gone t.fresh t.entries.entries };
 }
 
-// A copy of a section. The error is want of memory.
-fn copy_of(alloc: Global, section: &[u8]) -> Result<Vec<u8>, AllocError>
-    ensures { IfOk result (λ v. v.items ≡ section.now) }
-{
-    section.to_vec(alloc)
-}
-
 impl SortedOut {
     /// A table that advertises nothing to a peer that was told nothing. The error is want of memory.
     pub fn make(alloc: Global) -> Result<SortedOut, AllocError>
@@ -57,8 +51,8 @@ impl SortedOut {
         Ok(SortedOut {
             alloc,
             entries: BTreeMap::new(alloc),
-            gone: None,
-            fresh: None,
+            gone: Waiting::none(alloc),
+            fresh: Waiting::none(alloc),
         })
     }
 
@@ -70,10 +64,9 @@ impl SortedOut {
             ≡ record self.old { adv = with_value prefix_cmp self.old.adv prefix section.now }) }
         ensures err { OnErr result (self.new ≡ self.old) }
     {
-        let section = copy_of(self.alloc, section)?;
-        if put(&mut self.entries, prefix, section)? {
-            self.fresh = Some(with_prefix(self.fresh, prefix));
-        }
+        let waits = put(&mut self.entries, self.alloc, prefix, section)?;
+        self.fresh.set(prefix, waits);
+        self.gone.set(prefix, false);
         Ok(())
     }
 
@@ -81,9 +74,9 @@ impl SortedOut {
     pub fn unset(&mut self, prefix: Prefix)
         ensures { self.new ≡ record self.old { adv = without prefix_cmp self.old.adv prefix } }
     {
-        if take_back(&mut self.entries, prefix) {
-            self.gone = Some(with_prefix(self.gone, prefix));
-        }
+        let waits = take_back(&mut self.entries, prefix);
+        self.gone.set(prefix, waits);
+        self.fresh.set(prefix, false);
     }
 
     /// Replaces the content of `out` by the next UPDATE, which the peer is then told. False, with `out` unchanged, if
@@ -100,16 +93,14 @@ impl SortedOut {
             (length (pending self.new.adv self.new.told) < length (pending self.old.adv self.old.told)) }
         ensures message { OnTrue result (IsMessage out.new.octets) }
     {
-        self.gone = first_gone(&self.entries, self.gone);
-        if let Some(span) = self.gone {
-            self.gone = withdraw(&mut self.entries, span, out);
+        if let Some(prefix) = next_gone(&self.entries, &mut self.gone) {
+            withdraw(&mut self.entries, &mut self.gone, prefix, out);
             return true;
         }
-        self.fresh = first_fresh(&self.entries, self.fresh);
-        let Some(span) = self.fresh else {
+        let Some(prefix) = next_fresh(&self.entries, &mut self.fresh) else {
             return false;
         };
-        self.fresh = announce(&mut self.entries, span, out);
+        announce(&mut self.entries, &mut self.fresh, prefix, out);
         true
     }
 
@@ -130,7 +121,7 @@ impl SortedOut {
     pub fn is_drained(&self) -> bool
         ensures { IsTrue result ↔ (pending self.now.adv self.now.told ≡ []) }
     {
-        first_gone(&self.entries, self.gone).is_none()
-            && first_fresh(&self.entries, self.fresh).is_none()
+        first_gone(&self.entries, &self.gone).is_none()
+            && first_fresh(&self.entries, &self.fresh).is_none()
     }
 }

@@ -3,23 +3,24 @@ use Rattle.xb_words.specs.Table.{first_of}
 use Rattle.bgp_write.specs.Packers.{packed_so_far, buffer_of, reference_of}
 use Rattle.bgp_write.specs.Packings.{announcing}
 use Rattle.bgp_write.specs.Pending.{section_of}
-use Rattle.out_sorted.specs.Slots.{adv_in, is_fresh, keys_where, AllInSpan, Keeps}
+use Rattle.out_sorted.specs.Slots.{adv_in, is_fresh, is_gone, keys_where, Keeps}
 use Rattle.out_sorted.specs.Sending.{announcement_from}
+use Rattle.out_sorted.specs.Waits.{Has}
 use Rattle.out_sorted.proofs.entries.pack_announcement.Given as goal
 
 -- the message of what is packed and what is left is the one of all
 abbrev pub invariant-prefixes : goal.invariant-prefixes
 invariant-prefixes l = record {
-  keeps : Keeps l.initial.entries.entries l.entries.entries;
-  first : first_of (keys_where is_fresh l.entries.entries) ≡ Some l.left.first;
-  span : AllInSpan is_fresh (Some l.left) l.entries.entries;
+  keeps : Keeps is_gone l.initial.entries.entries l.entries.entries;
+  waits : Has l.fresh (keys_where is_fresh l.entries.entries);
+  first : first_of (keys_where is_fresh l.entries.entries) ≡ Some l.left;
   shape : packed_so_far l.packer
-      ≡ record (announcing (section_of (adv_in l.initial.entries.entries) l.span.first)) {
+      ≡ record (announcing (section_of (adv_in l.initial.entries.entries) l.first)) {
         prefixes = (packed_so_far l.packer).prefixes;
       };
-  whole : announcement_from (section_of (adv_in l.initial.entries.entries) l.span.first)
+  whole : announcement_from (section_of (adv_in l.initial.entries.entries) l.first)
       (packed_so_far l.packer).prefixes l.entries.entries
-      ≡ announcement_from (section_of (adv_in l.initial.entries.entries) l.span.first) [] l.initial.entries.entries;
+      ≡ announcement_from (section_of (adv_in l.initial.entries.entries) l.first) [] l.initial.entries.entries;
   same_reference : reference_of l.packer ≡ reference_of l.initial.packer;
   capacity : (buffer_of l.packer).capacity ≡ (buffer_of l.initial.packer).capacity;
 }
