@@ -7,9 +7,9 @@
 //! of that message, and its `Packer` writes it.
 //!
 //! The table is one ordered map whose entries each hold a section, or two if the peer was told another one than is
-//! advertised. A message therefore moves sections and takes no memory. Beside the map, one span of prefixes has all
-//! that wait to be withdrawn and another all that wait to be announced; a message narrows its span to what is left, so
-//! that all messages together walk over a span once.
+//! advertised. A message therefore moves sections and takes no memory. Beside the map, one set has the prefixes that
+//! wait to be withdrawn and another those that wait to be announced, so that a message looks at what waits alone. If
+//! there was no memory for a prefix in its set, the table is searched instead, from the first prefix that may wait.
 //!
 //! Which routes are advertised is not decided here, and what was written is the caller's to send. A session that comes
 //! up begins with a new table.
