@@ -208,9 +208,10 @@ unfolding chain
 native_meeting m local e prefix old new none =
     let w = world_of e local nobody old.side prefix 0 old.route new.route new.side in
     let ends : List (ℕ × ProgramEntry) → Called =
-    λ ps. called (chain_from Decision [] w e.faults ps w) in
-    (ap (λ (ps : List (ℕ × ProgramEntry)). (ends ps).outcome) none,
-    ap (λ (ps : List (ℕ × ProgramEntry)). (ends ps).engine) none)
+    λ ps. called (chain_from Decision [] w e.faults ps w) in (
+      ap (λ (ps : List (ℕ × ProgramEntry)). (ends ps).outcome) none,
+      ap (λ (ps : List (ℕ × ProgramEntry)). (ends ps).engine) none,
+    )
 
 -- nor do all meetings
 native_meetings : (m : Manifest) (local : Side) (prefix : Prefix) (k : Match) (i : ℕ) (cs : List Candidate)
