@@ -3,9 +3,9 @@ ghost use Rattle.std.specs.Prelude.{◌≡◌, ◌++◌, length, OnOk};
 ghost use Rattle.bgp_attr.specs.Routes.{attribute_at};
 ghost use Rattle.xbgp_view.specs.Sections.{entry_of};
 
+use crate::value::Value;
 use std::alloc::{AllocError, Global};
 use std::marker::Model;
-use xb_words::zeros;
 use xbgp_view::RouteView;
 
 /// An attribute: the flags that a route keeps, the code, and the octets of the value.
@@ -13,7 +13,7 @@ use xbgp_view::RouteView;
 pub(crate) struct Node {
     flags: u8,
     code: u8,
-    value: Vec<u8>,
+    value: Value,
 }
 
 impl Model for Node {
@@ -22,7 +22,7 @@ impl Model for Node {
 
     ghost Value = { ℕ × Attribute };
 
-    ghost view = { λ n. (n.code, record { flags = n.flags; value = n.value.items }) };
+    ghost view = { λ n. (n.code, record { flags = n.flags; value = n.value }) };
 }
 
 impl Node {
@@ -55,11 +55,11 @@ pub(crate) fn push_copy<R: RouteView>(
     ensures { OnOk result (nodes.new.items
         ≡ nodes.old.items ++ entry_of code (attribute_at (R.route view.now) code)) }
 {
-    let Some((flags, len)) = view.flags_len(code) else {
+    let Some(held) = view.attribute(code) else {
         return Ok(());
     };
-    let mut value = zeros(alloc, len)?;
-    let _ = view.copy(code, &mut value);
+    let flags = held.flags();
+    let value = Value::copy_of(alloc, held.value())?;
     nodes.push(Node { flags, code, value })?;
     Ok(())
 }
