@@ -8,9 +8,6 @@ use std::alloc::{AllocError, Global};
 use std::marker::Model;
 use xbgp_view::{Held, RouteView, copy_value};
 
-// The attributes that a list has room for at first.
-const USUAL: usize = 8;
-
 /// A neutral route as a list of attributes by rising code. A search for a code goes through the list, which has as many
 /// nodes as the route has attributes.
 #[derive(Drop)]
@@ -48,7 +45,7 @@ impl AttrList {
     pub fn copy_of<R: RouteView>(alloc: Global, view: &R) -> Result<AttrList, AllocError>
         ensures { IfOk result (λ l. l ≡ R.route view.now) }
     {
-        let mut nodes = Vec::with_capacity(alloc, USUAL)?;
+        let mut nodes = Vec::new(alloc);
         let mut from = 0u16;
         'codes: while let Some(code) = view.code_from(from) {
             push_copy(alloc, &mut nodes, view, code)?;

@@ -5,7 +5,7 @@ use Rattle.rib_table.proofs.NodeLemmas.{below_code-more}
 use Rattle.rib_table.proofs.attrs.AttrList.copy_of.Goals as goal
 
 pub codes-init : goal.codes-init
-codes-init g c = (c.in_ok-nodes.ensures.items ∙ sym (below_code-zero (g.R.RouteView.route c.args.view.now)), omega arith)
+codes-init g c = (c.new-nodes.ensures.items ∙ sym (below_code-zero (g.R.RouteView.route c.args.view.now)), omega arith)
 
 pub codes-smaller : goal.codes-smaller
 codes-smaller g c =
