@@ -6,7 +6,7 @@ ghost use Rattle.bgp_attr.specs.Routes.{attribute_at, IsRoute};
 use crate::node::{Node, push_copy};
 use std::alloc::{AllocError, Global};
 use std::marker::Model;
-use xbgp_view::{RouteView, copy_value};
+use xbgp_view::{Held, RouteView, copy_value};
 
 /// A neutral route as a list of attributes by rising code. A search for a code goes through the list, which has as many
 /// nodes as the route has attributes.
@@ -61,6 +61,11 @@ impl RouteView for AttrList {
     fn flags_len(&self, code: u8) -> Option<(u8, usize)> {
         let node = node_at(&self.nodes, code)?;
         Some((node.flags(), node.value().len()))
+    }
+
+    fn attribute(&self, code: u8) -> Option<Held<'_>> {
+        let node = node_at(&self.nodes, code)?;
+        Some(Held::new(node.flags(), node.value()))
     }
 
     fn copy(&self, code: u8, out: &mut [u8]) -> Option<usize> {

@@ -73,6 +73,17 @@ IsRead-copied r code flags n old new is told size e =
           ∙ ap (entry_octets code) (sym k.0);
     }
 
+-- an attribute that a route has can be spelled
+pub record IsOfRoute (a : Attribute) : Type 0 where
+  pub kept : kept_flags a.flags ≡ a.flags
+  pub short : length a.value ≤ MAX_CANONICAL
+
+pub IsOfRoute-attribute_at : (r : Route) (code : ℕ) (a : Attribute) → IsRoute r → Some a ≡ attribute_at r code
+    → IsOfRoute a
+IsOfRoute-attribute_at r code a is e =
+    let entry = IsEntry-attribute_at r code a is.entries (sym e) in
+    record { kept = entry.0; short = omega (arith, entry.1, is.short) }
+
 -- the entries below the next code are those below a number, and the entry that was found
 pub record IsNext (r : Route) (from code : ℕ) : Type 0 where
   pub past : from ≤ code

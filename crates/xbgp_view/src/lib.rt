@@ -1,7 +1,7 @@
 //! Routes as programs see and edit them.
 //!
 //! A [`RouteView`] shows a neutral route, however it is kept: which codes it has, and for each of them flags and a
-//! value. Two views are here. A [`SectionView`] is a section of path attributes in place, as it was received; it walks
+//! value, which it lends as a [`Held`]. Two views are here. A [`SectionView`] is a section of path attributes in place, as it was received; it walks
 //! over the section once and notes each attribute by its code. An [`Overlay`] is a route that can be edited. It has
 //! room for a canonical section of [`MAX_CANONICAL`](bgp_attr::MAX_CANONICAL) octets, for a copy to return to, and for
 //! the next section, which each edit writes; so it takes no memory once it is made.
@@ -15,6 +15,7 @@
 #![tactic(auto)]
 
 mod find;
+mod held;
 pub mod laws;
 mod overlay;
 mod section;
@@ -22,6 +23,7 @@ mod spell;
 mod view;
 
 pub use find::copy_value;
+pub use held::Held;
 pub use overlay::Overlay;
 pub use section::SectionView;
 pub use spell::append_attribute;

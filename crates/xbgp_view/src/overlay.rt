@@ -6,6 +6,7 @@ ghost use Rattle.xbgp_view.specs.Sections.{IsCanonical};
 ghost use Rattle.xb_values.specs.Buffers.{Appends};
 
 use crate::find::{attribute_in, code_in, copy_value, gap_at};
+use crate::held::Held;
 use crate::spell::{append_attribute, kept_flags, spelled_len};
 use crate::{RouteView, SectionView, write_section};
 use bgp_attr::MAX_CANONICAL;
@@ -86,6 +87,11 @@ impl RouteView for Overlay {
     fn flags_len(&self, code: u8) -> Option<(u8, usize)> {
         let attr = attribute_in(self.section.as_slice(), code)?;
         Some((kept_flags(attr.flags), attr.value.len()))
+    }
+
+    fn attribute(&self, code: u8) -> Option<Held<'_>> {
+        let attr = attribute_in(self.section.as_slice(), code)?;
+        Some(Held::of(attr))
     }
 
     fn copy(&self, code: u8, out: &mut [u8]) -> Option<usize> {

@@ -9,6 +9,7 @@ ghost use Rattle.xbgp_view.specs.Views.{code_from};
 
 use crate::RouteView;
 use crate::find::copy_value;
+use crate::held::Held;
 use crate::spell::kept_flags;
 use bgp_attr::{Attr, Attrs, MAX_CANONICAL};
 use std::marker::Model;
@@ -89,7 +90,7 @@ impl<'a> SectionView<'a> {
     }
 
     // The attribute of a code, if the section has one.
-    fn attribute(&self, code: u8) -> Option<Attr<'a>>
+    fn found(&self, code: u8) -> Option<Attr<'a>>
         ensures shape { IsRoute self.now }
         ensures value { option_map kept_attr result ≡ attribute_at self.now code }
     {
@@ -101,12 +102,17 @@ impl RouteView for SectionView<'_> {
     ghost route = { λ v. v };
 
     fn flags_len(&self, code: u8) -> Option<(u8, usize)> {
-        let attr = self.attribute(code)?;
+        let attr = self.found(code)?;
         Some((kept_flags(attr.flags), attr.value.len()))
     }
 
+    fn attribute(&self, code: u8) -> Option<Held<'_>> {
+        let attr = self.found(code)?;
+        Some(Held::of(attr))
+    }
+
     fn copy(&self, code: u8, out: &mut [u8]) -> Option<usize> {
-        let attr = self.attribute(code)?;
+        let attr = self.found(code)?;
         copy_value(attr.value, out)
     }
 

@@ -4,6 +4,7 @@ ghost use Rattle.bgp_attr.specs.Routes.{Route, IsRoute, attribute_at, canon, rou
 ghost use Rattle.xbgp_view.specs.Sections.{entry_octets, IsCanonical};
 ghost use Rattle.xbgp_view.specs.Views.{flags_and_length, code_from, copied, length_that_fits};
 
+use crate::held::Held;
 use crate::spell::append_attribute;
 use bgp_attr::MAX_CANONICAL;
 use xb_values::Buf;
@@ -19,6 +20,11 @@ pub trait RouteView {
         ensures shape { IsRoute (route self.now) }
         ensures value { result ≡ flags_and_length (route self.now) code };
 
+    /// An attribute, or None if the route has no such attribute.
+    fn attribute(&self, code: u8) -> Option<Held<'_>>
+        ensures shape { IsRoute (route self.now) }
+        ensures value { result ≡ attribute_at (route self.now) code };
+
     /// Copies the value of an attribute to the front of `out` and returns its length. None, with `out` unchanged, if
     /// the route has no such attribute or its value is longer than `out`.
     fn copy(&self, code: u8, out: &mut [u8]) -> Option<usize>
@@ -33,20 +39,16 @@ pub trait RouteView {
 }
 
 // Appends the attribute of a code, if the view has it.
-fn append_entry<R: RouteView>(view: &R, code: u8, value: &mut [u8], out: &mut Buf)
-    requires value { length value.old ≡ MAX_CANONICAL }
-    requires room { length out.old.octets + length (entry_octets code (attribute_at (R.route view.now) code))
+fn append_entry<R: RouteView>(view: &R, code: u8, out: &mut Buf)
+    requires { length out.old.octets + length (entry_octets code (attribute_at (R.route view.now) code))
         ≤ out.old.capacity }
-    ensures appended { out.new ≡ record out.old {
+    ensures { out.new ≡ record out.old {
       octets = out.old.octets ++ entry_octets code (attribute_at (R.route view.now) code);
     } }
-    ensures len { length value.new ≡ MAX_CANONICAL }
 {
-    let Some((flags, len)) = view.flags_len(code) else {
-        return;
-    };
-    let _ = view.copy(code, value);
-    append_attribute(out, code, flags, &value[..len]);
+    if let Some(held) = view.attribute(code) {
+        append_attribute(out, code, held.flags(), held.value());
+    }
 }
 
 /// Replaces the content of `out` by the canonical section of the route that a view shows.
@@ -56,11 +58,10 @@ pub fn write_section<R: RouteView>(view: &R, out: &mut Buf)
     ensures canonical { IsCanonical out.new.octets }
     ensures route { route_of out.new.octets ≡ R.route view.now }
 {
-    let mut value = [0u8; MAX_CANONICAL];
     let mut from = 0u16;
     out.clear();
     'codes: while let Some(code) = view.code_from(from) {
-        append_entry(view, code, &mut value, out);
+        append_entry(view, code, out);
         from = u16::from(code) + 1;
     }
 }

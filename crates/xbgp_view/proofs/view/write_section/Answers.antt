@@ -1,4 +1,4 @@
-use Rattle.std.proofs.Common.{refl, ◌+◌, ◌++◌, ◌∙◌, ap, sym, length, arith}
+use Rattle.std.proofs.Common.{◌+◌, ◌++◌, ◌∙◌, ap, sym, length, arith}
 use Rattle.std.proofs.lemmas.List.{length-append}
 use Rattle.xb_values.specs.Buffers.{Buffer}
 use Rattle.bgp_attr.specs.Routes.{attribute_at, canon}
@@ -11,12 +11,11 @@ use Rattle.xbgp_view.proofs.view.write_section.Goals as goal
 pub codes-init : goal.codes-init
 codes-init g c = (
   c.clear.ensures ∙ ap (λ r. record { octets = canon r; capacity = c.args.out.now.capacity }) (sym (below_code-zero (g.R.RouteView.route c.args.view.now))),
-  refl,
   omega arith,
 )
 
-pub append_entry-requires-clause-room : goal.append_entry-requires-clause-room
-append_entry-requires-clause-room g c =
+pub append_entry-requires : goal.append_entry-requires
+append_entry-requires g c =
     let r = g.R.RouteView.route c.args.view.now in
     let next = IsNext-code_from r c.codes.from c.in-Some.code c.in-Some.ensures.shape.entries c.in-Some.ensures.shape.rising c.in-Some.ensures.value in
     omega (
@@ -39,10 +38,9 @@ pub codes-preserved : goal.codes-preserved
 codes-preserved g c =
     let r = g.R.RouteView.route c.args.view.now in
     let next = IsNext-code_from r c.codes.from c.in-Some.code c.in-Some.ensures.shape.entries c.in-Some.ensures.shape.rising c.in-Some.ensures.value in (
-      c.append_entry.ensures.appended
+      c.append_entry.ensures
           ∙ ap (λ (b : Buffer). record b { octets = b.octets ++ entry_octets c.in-Some.code (attribute_at r c.in-Some.code) }) c.codes.invariant.0
           ∙ ap (λ t. record { octets = t; capacity = c.args.out.now.capacity }) (sym (canon-below_code-next r c.codes.from c.in-Some.code next) ∙ ap (λ n. canon (below_code (n + 1) r)) (sym c.from-from.ensures)),
-      c.append_entry.ensures.len,
       omega (arith, next.inside, c.from-from.ensures),
     )
 
