@@ -1,0 +1,4 @@
+pub mod LookupLemmas
+pub mod FieldsLemmas
+pub mod EntriesLemmas
+pub mod KeptLemmas

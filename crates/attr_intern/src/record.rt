@@ -3,8 +3,7 @@ ghost use Rattle.std.specs.Prelude.{◌≡◌, ◌+◌, ◌==◌, ◌++◌, ◌�
 ghost use Rattle.std.specs.Option.{option_map};
 ghost use Rattle.bgp_attr.specs.Routes.{attribute_at, canon, route_of};
 ghost use Rattle.xbgp_view.specs.Sections.{entry_octets, IsCanonical};
-ghost use Rattle.xbgp_view.specs.Views.{code_from};
-ghost use Rattle.attr_intern.specs.Fields.{fields_at, fields_from};
+ghost use Rattle.attr_intern.specs.Fields.{attribute_in, fields_at, fields_from};
 
 use bgp_attr::MAX_CANONICAL;
 use std::alloc::{AllocError, Global};
@@ -98,10 +97,28 @@ fn fields_of<R: RouteView>(alloc: Global, view: &R) -> Result<Vec<Field>, AllocE
 }
 
 // The field of a code, if there is one.
-fn field_at(fields: &[Field], code: u8) -> Option<Field>
-    ensures { result ≡ find (λ f. f.code == code) fields.now }
+fn field_at(fields: &[Field], code: u8) -> Option<&Field>
+    ensures { option_map (λ f. f.now) result ≡ find (λ f. f.code == code) fields.now }
 {
-    fields.iter().find(|field| field.code == code).copied()
+    fields.iter().find(|field| field.code == code)
+}
+
+// The first field whose code is at least `from`.
+fn field_from(fields: &[Field], from: u16) -> Option<&Field>
+    ensures { option_map (λ f. f.now) result ≡ find (λ f. nat_le from f.code) fields.now }
+{
+    fields.iter().find(|field| u16::from(field.code) >= from)
+}
+
+// The attribute where a field says.
+fn held_in<'a>(section: &'a [u8], field: &Field) -> Held<'a>
+    requires inside { field.now.start + field.now.len ≤ length section.now }
+    requires short { length section.now ≤ MAX_CANONICAL }
+    ensures { result ≡ attribute_in section.now field.now }
+{
+    let start = usize::from(field.start);
+    let end = start + usize::from(field.len);
+    Held::new(field.flags, &section[start..end])
 }
 
 impl Record {
@@ -140,9 +157,7 @@ impl RouteView for Record {
 
     fn attribute(&self, code: u8) -> Option<Held<'_>> {
         let field = field_at(&self.fields, code)?;
-        let start = usize::from(field.start);
-        let value = &self.section[start..start + usize::from(field.len)];
-        Some(Held::new(field.flags, value))
+        Some(held_in(self.section.as_slice(), field))
     }
 
     fn copy(&self, code: u8, out: &mut [u8]) -> Option<usize> {
@@ -150,10 +165,7 @@ impl RouteView for Record {
     }
 
     fn code_from(&self, from: u16) -> Option<u8> {
-        let field = self
-            .fields
-            .iter()
-            .find(|field| u16::from(field.code) >= from)?;
+        let field = field_from(&self.fields, from)?;
         Some(field.code)
     }
 }
