@@ -40,9 +40,10 @@ module _ {T : Type 0} where
       rw place (value_at-from (key + 1) i slots)
   value_at-from key zero (Some v ∷ slots) = rw (add-zero, tied_itself nat_cmp_total key) refl
   value_at-from key (suc i) (Some v ∷ slots) =
-      let place : key + suc i ≡ key + 1 + i = omega arith in
-      let past : nat_cmp (key + 1 + i) key ≡ Greater = nat_cmp-greater (key + 1 + i) key (omega arith) in
-      rw (place, past) (value_at-from (key + 1) i slots)
+      let place : key + 1 + i ≡ key + suc i = omega arith in
+      let past : nat_cmp (key + suc i) key ≡ Greater = nat_cmp-greater (key + suc i) key (omega arith) in
+      rw past (subst (λ n. value_at nat_cmp (entries_from (key + 1) slots) n ≡ get_or slots i None) place
+      (value_at-from (key + 1) i slots))
 
   -- the keys rise
   pub IsRising-entries : (s : Slab T) → IsRising nat_cmp (entries s)

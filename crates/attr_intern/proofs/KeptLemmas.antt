@@ -15,7 +15,7 @@ use Rattle.bgp_attr.specs.Routes.{Route, canon, route_of, IsRoute}
 use Rattle.xbgp_view.specs.Sections.{IsCanonical}
 use Rattle.xbgp_view.proofs.ReadingLemmas.{route_of-canon}
 use Rattle.attr_intern.specs.Kept.{section_cmp, SectionIds, AreIndexed}
-use Rattle.attr_intern.specs.Pools.{Owned, most_owners, record_at, route_at, ArePooled}
+use Rattle.attr_intern.specs.Pools.{Owned, most_owners, one_more, record_at, route_at, ArePooled}
 use Rattle.attr_intern.proofs.EntriesLemmas.{IsRising-entries, value_at-entries}
 use Rattle.attr_intern.proofs.LookupLemmas.{by_ordering, is_eq-false, value_at-with_value-other, value_at-without}
 
@@ -82,6 +82,15 @@ AreIndexed-counted old new ids key n o was here others some few is =
           ∙ sym (ap (option_map (λ o. canon o.route)) was) ∙ ap (section_at old) (sym same)
       | inr apart ↦ ap (option_map (λ o. canon o.route)) (others id apart)
     ]
+
+-- one owner more
+pub AreIndexed-shared : (old new : Slab Owned) (ids : SectionIds) (key : ℕ) (o : Owned) → get old key ≡ Some o
+    → get new key ≡ Some (record o { owners = one_more o.owners }) → KeepsOthers old new key → AreIndexed old ids
+    → AreIndexed new ids
+AreIndexed-shared old new ids key o was here others is =
+    let some : 1 ≤ one_more o.owners = omega arith in
+    let few : one_more o.owners ≤ most_owners = omega arith in
+    AreIndexed-counted old new ids key (one_more o.owners) o was here others some few is
 
 -- a new record
 pub AreIndexed-added : (old new : Slab Owned) (ids added : SectionIds) (key : ℕ) (section : List ℕ) (route : Route)
