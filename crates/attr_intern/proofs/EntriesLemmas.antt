@@ -1,9 +1,10 @@
 -- The entries of a slab as a finite map: what is found at a key, and what a change of one key makes of the map.
-use Rattle.std.proofs.Common.{◌≡◌, ◌≢◌, ℕ, zero, suc, ◌+◌, ◌<◌, List, [], ◌∷◌, get_or, Option, Some, None, cond, inl, inr}
+use Rattle.std.proofs.Common.{◌≡◌, ◌≢◌, ℕ, zero, suc, ◌+◌, ◌<◌, List, [], ◌∷◌, get_or, Option, Some, None, cond, inl}
+use Rattle.std.proofs.Common.{inr}
 use Rattle.std.proofs.Common.{refl, sym, ap, ◌∙◌, subst, arith, add-zero, zero-add}
 use Rattle.std.specs.Ordering.{is_eq, nat_cmp}
 use Rattle.std.specs.List.Sorted.{IsStrictlySortedBy}
-use Rattle.std.specs.declared.cmp.Ordering.TheVariants.{Less, Equal, Greater}
+use Rattle.std.specs.declared.cmp.Ordering.TheVariants.{Less, Greater}
 use Rattle.std.proofs.lemmas.Bool.{cases_eq}
 use Rattle.std.proofs.lemmas.Cmp.{nat_cmp_total, tied_itself}
 use Rattle.std.proofs.lemmas.Map.Lookups.{exact_unsigned}
@@ -12,7 +13,8 @@ use Rattle.xb_words.specs.Table.{value_at, with_value, without, IsRising}
 use Rattle.xb_words.proofs.TableLemmas.{IsRising-with_value, IsRising-without, value_at-with_value}
 use Rattle.xb_words.proofs.TableSplitLemmas.{Each, IsRising-cons, value_at-above}
 use Rattle.xbgp_view.proofs.LowerLemmas.{nat_cmp-less, nat_cmp-greater}
-use Rattle.attr_intern.proofs.LookupLemmas.{entries_from_value_at, is_eq-false, value_at-with_value-other, value_at-without}
+use Rattle.attr_intern.proofs.LookupLemmas.{entries_from_value_at, is_eq-false, value_at-with_value-other}
+use Rattle.attr_intern.proofs.LookupLemmas.{value_at-without}
 
 module _ {T : Type 0} where
   above_entries : (q key : ℕ) (slots : List (Option T)) → q < key
@@ -84,7 +86,9 @@ module _ {T : Type 0} where
   entries-removed s t key gone others =
       entries_from_value_at nat_cmp nat_cmp_total exact_unsigned (entries t) (without nat_cmp (entries s) key)
       (IsRising-entries t) (IsRising-without nat_cmp nat_cmp_total (entries s) key (IsRising-entries s))
-      (λ q. value_at-entries t q ∙ found q ∙ sym (value_at-without nat_cmp nat_cmp_total (entries s) key q (IsRising-entries s)))
+      (λ q.
+      value_at-entries t q ∙ found q
+      ∙ sym (value_at-without nat_cmp nat_cmp_total (entries s) key q (IsRising-entries s)))
     where
       found : (q : ℕ) → get t q ≡ cond (is_eq (nat_cmp key q)) None (value_at nat_cmp (entries s) q)
       found q = elim (cases_eq q key) [

@@ -1,5 +1,5 @@
 -- The fields of a canonical section: how they grow, and what a search among them finds.
-use Rattle.std.proofs.Common.{◌≡◌, ℕ, ◌+◌, ◌<◌, ◌≤◌, List, [], ◌∷◌, ◌++◌, length, take, drop, find, cond, Option, Some}
+use Rattle.std.proofs.Common.{◌≡◌, ℕ, ◌+◌, ◌≤◌, List, [], ◌∷◌, ◌++◌, length, take, drop, find, Option, Some}
 use Rattle.std.proofs.Common.{None, option_map, inl, inr, refl, sym, ap, ◌∙◌, subst, arith, append_assoc, length-append}
 use Rattle.std.proofs.Common.{add-zero, zero-add}
 use Rattle.std.specs.Prelude.{◌==◌, nat_lt, nat_le}
@@ -63,7 +63,8 @@ value_between before head value after n e =
     let parts : before ++ ((head ++ value) ++ after) ≡ (before ++ head) ++ (value ++ after) = simp append_assoc in
     let len : length (before ++ head) ≡ length before + n = omega (arith, length-append before head) in
     let dropped = drop_at (before ++ head) (value ++ after) (length before + n) len in
-    rw (parts, dropped) (take-append-le (length value) value after (omega arith) ∙ take_all (length value) value (omega arith))
+    rw (parts, dropped)
+    (take-append-le (length value) value after (omega arith) ∙ take_all (length value) value (omega arith))
 
 -- the value of an attribute that stands after other octets
 value_in : (before after : List ℕ) (e : ℕ × Attribute)
@@ -103,7 +104,8 @@ FindsIn-fields_from before (e ∷ r) code =
           } in
           rw (nat_cmp-equal code e.0 (sym here.1), here.0) found
       | inr other ↦ elim (nat_cmp code e.0) as (λ o. nat_cmp code e.0 ≡ o
-          → FindsIn section (find (λ f. f.code == code) (fields_from (length before) (e ∷ r))) (attribute_at (e ∷ r) code)) [
+          → FindsIn section (find (λ f. f.code == code) (fields_from (length before) (e ∷ r)))
+          (attribute_at (e ∷ r) code)) [
             | Less ↦ λ is. rw (other.0, is) shifted
             | Equal ↦ λ is. absurd (other.1 (sym (eq-nat_cmp code e.0 is)))
             | Greater ↦ λ is. rw (other.0, is) shifted
@@ -117,10 +119,10 @@ pub fields_from-next : (r : Route) (from code n at m : ℕ) (old new : List Fiel
     → n ≡ code → (new ≡ fields_from 0 (below_code (n + 1) r)) × (m ≡ length (canon (below_code (n + 1) r)))
 fields_from-next r from code n at m old new next is place more moved same =
     let step : (o : Option Attribute)
-        → (fields_from 0 (below_code from r) ++ fields_at (length (canon (below_code from r))) code o
-            ≡ fields_from 0 (below_code from r ++ entry_of code o))
-            × (length (canon (below_code from r)) + length (entry_octets code o)
-                ≡ length (canon (below_code from r ++ entry_of code o))) =
+    → (fields_from 0 (below_code from r) ++ fields_at (length (canon (below_code from r))) code o
+    ≡ fields_from 0 (below_code from r ++ entry_of code o))
+    × (length (canon (below_code from r)) + length (entry_octets code o)
+    ≡ length (canon (below_code from r ++ entry_of code o))) =
     λ o. step_at (below_code from r) code o in
     let both = step (attribute_at r code) in (
       more ∙ ap (λ l. l ++ fields_at at code (attribute_at r code)) is
@@ -134,13 +136,14 @@ fields_from-next r from code n at m old new next is place more moved same =
   where
     step_at : (l : Route) (code : ℕ) (o : Option Attribute)
         → (fields_from 0 l ++ fields_at (length (canon l)) code o ≡ fields_from 0 (l ++ entry_of code o))
-            × (length (canon l) + length (entry_octets code o) ≡ length (canon (l ++ entry_of code o)))
+        × (length (canon l) + length (entry_octets code o) ≡ length (canon (l ++ entry_of code o)))
     step_at l code None = (
       append-nil _ ∙ ap (fields_from 0) (sym (append-nil l)),
       add-zero _ ∙ ap (λ k. length (canon k)) (sym (append-nil l)),
     )
     step_at l code (Some a) = (
-      sym (fields_from-append 0 l ((code, a) ∷ []) ∙ ap (λ n. fields_from 0 l ++ fields_from n ((code, a) ∷ [])) (zero-add _)),
+      sym (fields_from-append 0 l ((code, a) ∷ [])
+          ∙ ap (λ n. fields_from 0 l ++ fields_from n ((code, a) ∷ [])) (zero-add _)),
       sym (ap length (canon-append l ((code, a) ∷ [])) ∙ length-append (canon l) (canonical (code, a) ++ [])
           ∙ ap (λ k. length (canon l) + length k) (append-nil (canonical (code, a)))),
     )

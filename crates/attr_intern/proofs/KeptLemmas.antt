@@ -1,8 +1,8 @@
 -- A pool's records beside their ids by section: what each change keeps, and what callers know of the records.
 use Rattle.std.proofs.Common.{◌≡◌, ◌≢◌, ◌⊎◌, ℕ, ◌≤◌, List, [], get_or, Option, Some, None, option_map, cond, inl, inr}
 use Rattle.std.proofs.Common.{refl, sym, ap, ◌∙◌, subst, arith, lit≤}
-use Rattle.std.specs.Ordering.{is_eq, nat_cmp}
-use Rattle.std.specs.declared.cmp.Ordering.TheVariants.{Less, Equal, Greater}
+use Rattle.std.specs.Ordering.{is_eq}
+use Rattle.std.specs.declared.cmp.Ordering.TheVariants.{Equal}
 use Rattle.std.specs.List.Sorted.{IsStrictlySortedBy}
 use Rattle.std.specs.Map.{keys_of}
 use Rattle.std.proofs.lemmas.Bool.{cases_eq}
@@ -102,10 +102,11 @@ AreIndexed-added old new ids added key section route vacant here others canonica
     let whole : IsRoute route = subst IsRoute means canonical.route in
     let spelled : canon route ≡ section = ap canon (sym means) ∙ canonical.octets in
     let is_added : value_at section_cmp added section ≡ Some key =
-    ap (λ m. value_at section_cmp m section) more ∙ value_at-with_value section_cmp nat_list_cmp_total ids section key in
+    ap (λ m. value_at section_cmp m section) more
+    ∙ value_at-with_value section_cmp nat_list_cmp_total ids section key in
     record {
       rising = subst (λ m. IsStrictlySortedBy section_cmp (keys_of m)) (sym more)
-      (IsRising-with_value section_cmp nat_list_cmp_total ids section key is.rising);
+          (IsRising-with_value section_cmp nat_list_cmp_total ids section key is.rising);
       routes = after_write (λ _ o. IsRoute o.route) old new key w here others whole is.routes;
       owned = after_write (λ _ o. 1 ≤ o.owners) old new key w here others (omega arith) is.owned;
       counted = after_write (λ _ o. o.owners ≤ most_owners) old new key w here others (lit≤ tt) is.counted;
@@ -143,7 +144,8 @@ AreIndexed-added old new ids added key section route vacant here others canonica
       | inr apart ↦
           let old_one = is.living s id (sym (other_section s apart) ∙ found) in
           let at : id ≢ key = λ same.
-          let none : section_at old id ≡ None = ap (section_at old) same ∙ ap (option_map (λ o. canon o.route)) vacant in
+          let none : section_at old id ≡ None =
+          ap (section_at old) same ∙ ap (option_map (λ o. canon o.route)) vacant in
           absurd (cc (none, old_one)) in
           ap (option_map (λ o. canon o.route)) (others id at) ∙ old_one
     ]
@@ -154,10 +156,11 @@ pub AreIndexed-removed : (old new : Slab Owned) (ids left : SectionIds) (key : �
     → AreIndexed old ids → AreIndexed new left
 AreIndexed-removed old new ids left key o was gone others fewer is = record {
   rising = subst (λ m. IsStrictlySortedBy section_cmp (keys_of m)) (sym fewer)
-  (IsRising-without section_cmp nat_list_cmp_total ids section is.rising);
+      (IsRising-without section_cmp nat_list_cmp_total ids section is.rising);
   routes = after_removal (λ _ o. IsRoute o.route) old new key gone others (λ id o _ found. is.routes id o found);
   owned = after_removal (λ _ o. 1 ≤ o.owners) old new key gone others (λ id o _ found. is.owned id o found);
-  counted = after_removal (λ _ o. o.owners ≤ most_owners) old new key gone others (λ id o _ found. is.counted id o found);
+  counted =
+      after_removal (λ _ o. o.owners ≤ most_owners) old new key gone others (λ id o _ found. is.counted id o found);
   listed =
       after_removal (λ id o. value_at section_cmp left (canon o.route) ≡ Some id) old new key gone others
       (λ id o apart found. still id o apart (is.listed id o found));
@@ -276,8 +279,8 @@ ArePooled-entries slab ids is = record {
   owned = λ id o found. is.owned id o (sym (value_at-entries slab id) ∙ found);
   counted = λ id o found. is.counted id o (sym (value_at-entries slab id) ∙ found);
   distinct = λ a b route at_a at_b.
-  let first = listed_by_route slab ids a route is at_a in
-  let second = listed_by_route slab ids b route is at_b in
-  let one : Some a ≡ Some b = sym first ∙ second in
-  cc one;
+      let first = listed_by_route slab ids a route is at_a in
+      let second = listed_by_route slab ids b route is at_b in
+      let one : Some a ≡ Some b = sym first ∙ second in
+      cc one;
 }

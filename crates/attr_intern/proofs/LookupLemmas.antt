@@ -1,7 +1,8 @@
--- Finite maps as entries by rising key: what a look-up finds after a write and a removal, that look-ups tell maps apart,
--- and maps whose keys are read by a function.
-use Rattle.std.proofs.Common.{◌≡◌, ◌≢◌, Bool, true, false, List, [], ◌∷◌, map, Option, Some, None, option_map, cond, refl}
-use Rattle.std.proofs.Common.{sym, ap, ◌∙◌, subst}
+-- Finite maps as entries by rising key: what a look-up finds after a write and a removal, that look-ups tell maps
+-- apart, and maps whose keys are read by a function.
+use Rattle.std.proofs.Common.{◌≡◌, ◌≢◌, Bool, true, false, List, [], ◌∷◌, Some, None, cond}
+use Rattle.std.proofs.Common.{refl}
+use Rattle.std.proofs.Common.{sym, ap, ◌∙◌}
 use Rattle.std.specs.Cmp.{IsTotalOrder}
 use Rattle.std.specs.BTreeMap.{insert_entry, is_at}
 use Rattle.std.specs.Map.{keys_of, lookup, remove_entry}
@@ -12,7 +13,8 @@ use Rattle.std.proofs.lemmas.Cmp.{tied_itself, eq_by_cmp_equiv}
 use Rattle.std.proofs.lemmas.Map.{lookup-remove_entry}
 use Rattle.std.proofs.lemmas.Map.Keys.{IsDistinct-from_sorted}
 use Rattle.xb_words.specs.Table.{value_at, with_value, without, IsRising}
-use Rattle.xb_words.proofs.TableSplitLemmas.{IsRising-head, IsRising-tail, Each-trans, Each-congr, value_at-above, less_from_greater}
+use Rattle.xb_words.proofs.TableSplitLemmas.{IsRising-head, IsRising-tail, Each-trans, Each-congr, value_at-above}
+use Rattle.xb_words.proofs.TableSplitLemmas.{less_from_greater}
 use Rattle.attr_intern.specs.Kept.{entries_by}
 
 pub by_ordering : {P : Type 0} (r : Ordering) → (r ≡ Less → P) → (r ≡ Equal → P) → (r ≡ Greater → P) → P
@@ -52,7 +54,8 @@ module _ {K X : Type 0} (c : K → K → Ordering) (o : IsTotalOrder c) where
   pub value_at-without : (es : List (K × X)) (k q : K) → IsRising c es
       → value_at c (without c es k) q ≡ cond (is_eq (c k q)) None (value_at c es q)
   value_at-without es k q rising =
-      lookup-remove_entry (eq_by_cmp_equiv o) (is_at (c k)) (at_is c o k) q es (IsDistinct-from_sorted c (keys_of es) rising)
+      lookup-remove_entry (eq_by_cmp_equiv o) (is_at (c k)) (at_is c o k) q es
+      (IsDistinct-from_sorted c (keys_of es) rising)
 
   missed : (e f : K × X) (es fs : List (K × X)) → IsRising c (f ∷ fs) → c e.0 f.0 ≡ Less
       → value_at c (e ∷ es) e.0 ≡ value_at c (f ∷ fs) e.0 → e ∷ es ≡ f ∷ fs
@@ -102,7 +105,8 @@ module _ {K B X : Type 0} (f : K → B) (c : B → B → Ordering) where
   value_at-entries_by (e ∷ es) q = cond-both (is_eq (c q (f e.0))) (Some e.1) _ _ (value_at-entries_by es q)
 
   by_match : (r : Ordering) (xs ys zs : List (K × X))
-      → entries_by f (match_ordering r xs ys zs) ≡ match_ordering r (entries_by f xs) (entries_by f ys) (entries_by f zs)
+      → entries_by f (match_ordering r xs ys zs)
+      ≡ match_ordering r (entries_by f xs) (entries_by f ys) (entries_by f zs)
   by_match Less xs ys zs = refl
   by_match Equal xs ys zs = refl
   by_match Greater xs ys zs = refl

@@ -1,11 +1,13 @@
 -- What callers see of a pool beside its slab: the record of an id, and what the records are after each change.
-use Rattle.std.proofs.Common.{◌≡◌, ◌≢◌, ℕ, ◌+◌, ◌-◌, ◌≤◌, Option, Some, None, IsSome, option_map, inl, inr, refl, sym, ap}
+use Rattle.std.proofs.Common.{◌≡◌, ◌≢◌, ℕ, ◌-◌, Option, Some, None, IsSome, option_map, inl, inr, refl, sym}
+use Rattle.std.proofs.Common.{ap}
 use Rattle.std.proofs.Common.{◌∙◌, subst, arith}
-use Rattle.std.specs.Option.{IfSome}
 use Rattle.std.specs.Ordering.{nat_cmp}
 use Rattle.std.proofs.lemmas.Bool.Decides.{eqb_tells}
+use Rattle.std.proofs.lemmas.Cmp.{nat_cmp_total}
 use Rattle.slab.specs.Slab.{Slab, get, entries}
 use Rattle.xb_words.specs.Table.{value_at, with_value, without}
+use Rattle.xb_words.proofs.TableLemmas.{value_at-with_value}
 use Rattle.bgp_attr.specs.Routes.{Route, canon}
 use Rattle.attr_intern.specs.Kept.{section_cmp, SectionIds, AreIndexed}
 use Rattle.attr_intern.specs.Pools.{Owned, Records, interned, most_owners, one_fewer, one_more, owners_at, owners_of}
@@ -84,6 +86,13 @@ module _ {s : Slab Owned} {records : Records} {key id : ℕ} (has : HasRecords s
       → route_at records other ≡ Some route → value_at section_cmp ids (canon route) ≡ Some other
   listed_elsewhere ids other route is lives =
       listed_by_route s ids other route is (ap (λ r. route_at r other) has.all ∙ lives)
+
+-- an id means what was interned
+pub route_at-interned : (records : Records) (id : ℕ) (route : Route)
+    → route_at (interned records id route) id ≡ Some route
+route_at-interned records id route =
+    ap (option_map (λ o. o.route)) (value_at-with_value nat_cmp nat_cmp_total records id
+    (record { route = route; owners = one_more (owners_at records id) }))
 
 -- what is left of a record that has the most owners, one, or others
 pub one_fewer-most : (o : Owned) → o.owners ≡ most_owners → one_fewer (Some o) ≡ Some o

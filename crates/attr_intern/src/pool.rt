@@ -5,7 +5,8 @@ ghost use Rattle.xbgp_view.specs.Sections.{IsCanonical};
 ghost use Rattle.slab.specs.Slab.{get, ContainsKey, SameValues, Updates};
 ghost use Rattle.xb_words.specs.Table.{with_value, without};
 ghost use Rattle.attr_intern.specs.Kept.{AreIndexed, section_cmp};
-ghost use Rattle.attr_intern.specs.Pools.{Owned, interned, one_more, owners_at, record_at, released, route_at, ArePooled};
+ghost use Rattle.attr_intern.specs.Pools.{Owned, interned, one_more, owners_at, record_at, released, route_at};
+ghost use Rattle.attr_intern.specs.Pools.{ArePooled};
 
 use crate::ids::Ids;
 use crate::{Record, RecordId};

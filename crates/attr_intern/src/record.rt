@@ -12,6 +12,7 @@ use xbgp_view::{Held, RouteView, copy_value};
 
 // The octets before a value, by its length: flags, code, and a length of one octet or of two.
 const SHORT_HEADER: u16 = 3;
+
 const LONG_HEADER: u16 = 4;
 
 // The longest value whose length has one octet.

@@ -1,11 +1,10 @@
-use Rattle.std.proofs.Common.{◌≡◌, ◌≢◌, ℕ, sym, ap, ◌∙◌, subst, refl, Some, None, is_some}
+use Rattle.std.proofs.Common.{◌≡◌, sym, ap, ◌∙◌, subst, Some, None, is_some}
 use Rattle.std.specs.Option.{IfSome}
 use Rattle.std.proofs.lemmas.Result.{err_from_is_err_and}
 use Rattle.xb_words.specs.Table.{value_at}
 use Rattle.bgp_attr.specs.Routes.{canon, route_of}
 use Rattle.xbgp_view.specs.Sections.{IsCanonical}
 use Rattle.attr_intern.specs.Kept.{section_cmp, AreIndexed}
-use Rattle.attr_intern.specs.Pools.{route_at, ArePooled}
 use Rattle.attr_intern.proofs.EntriesLemmas.{entries_from_get}
 use Rattle.attr_intern.proofs.KeptLemmas.{AreIndexed-added, AreIndexed-same, AreIndexed-shared, ArePooled-entries}
 use Rattle.attr_intern.proofs.KeptLemmas.{IsMeant-found}
@@ -89,8 +88,8 @@ returns-in_err-key-clause-pooled g c =
 pub invariant_of-self-2 : goal.invariant_of-self-2
 invariant_of-self-2 g c =
     let section = c.as_slice-section.ensures.value in (
-      AreIndexed-added c.self.inside.shared c.add_record.new.shared c.self.inside.ids c.add_record.new.ids c.in_ok-key.key
-          c.as_slice-section.result.now (g.R.RouteView.route c.args.view.now) c.in_ok-key.ensures.vacant
+      AreIndexed-added c.self.inside.shared c.add_record.new.shared c.self.inside.ids c.add_record.new.ids
+          c.in_ok-key.key c.as_slice-section.result.now (g.R.RouteView.route c.args.view.now) c.in_ok-key.ensures.vacant
           c.in_ok-key.ensures.record.changed c.in_ok-key.ensures.record.others
           (subst IsCanonical (sym section) c.write_section.ensures.canonical)
           (ap route_of section ∙ c.write_section.ensures.route) c.in_default.ensures c.in_ok-key.ensures.id

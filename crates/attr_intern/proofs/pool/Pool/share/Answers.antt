@@ -1,4 +1,4 @@
-use Rattle.std.proofs.Common.{sym, ◌∙◌, refl, Some}
+use Rattle.std.proofs.Common.{◌∙◌, refl}
 use Rattle.attr_intern.proofs.KeptLemmas.{ArePooled-entries, AreIndexed-shared}
 use Rattle.attr_intern.proofs.PoolLemmas.{contains, entries-shared, get-record_at, owned, HasRecords}
 use Rattle.attr_intern.proofs.pool.Pool.share.Goals as goal

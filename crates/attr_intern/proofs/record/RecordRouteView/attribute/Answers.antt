@@ -6,7 +6,9 @@ use Rattle.attr_intern.proofs.record.RecordRouteView.attribute.Goals as goal
 
 pub returns-in_err-field-clause-value : goal.returns-in_err-field-clause-value
 returns-in_err-field-clause-value c =
-    found_in _ _ c.args.code None c.self.invariant.0 (c.deref.ensures.value ∙ c.self.invariant.1) c.in_err-field.ensures
+    c.from_residual.ensures
+    ∙ found_in _ _ c.args.code None c.self.invariant.0 (c.deref.ensures.value ∙ c.self.invariant.1)
+    c.in_err-field.ensures
     ∙ ap (λ r. attribute_at r c.args.code) c.self.view_is
 
 pub held_in-requires : goal.held_in-requires

@@ -5,7 +5,8 @@ use Rattle.attr_intern.proofs.record.RecordRouteView.code_from.Goals as goal
 
 pub returns-in_err-field-clause-value : goal.returns-in_err-field-clause-value
 returns-in_err-field-clause-value c =
-    code_found _ _ c.args.from None (c.deref.ensures.value ∙ c.self.invariant.1) c.in_err-field.ensures
+    c.from_residual.ensures
+    ∙ code_found _ _ c.args.from None (c.deref.ensures.value ∙ c.self.invariant.1) c.in_err-field.ensures
     ∙ ap (λ r. code_from r c.args.from) c.self.view_is
 
 pub returns-clause-value : goal.returns-clause-value
