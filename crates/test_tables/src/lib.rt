@@ -1,16 +1,19 @@
-//! Tests of what the speaker is to be made of: the table of a peer gives back the route that was put, what a peer is
-//! told has the worked messages, and the lines of a report have their worked texts.
+//! Tests of what the speaker is to be made of: the table of a peer gives back the route that was put, routes of equal
+//! meaning share a record, what a peer is told has the worked messages, and the lines of a report have their worked
+//! texts.
 #![tactic(auto)]
 
-ghost use Rattle.std.specs.Prelude.{◌≡◌, ◌≤◌, true, false, MatchOption};
+ghost use Rattle.std.specs.Prelude.{◌≡◌, ◌≤◌, true, false, IfOk, MatchOption};
 ghost use Rattle.xb_words.specs.Table.{value_at};
 ghost use Rattle.xb_values.specs.Prefixes.{prefix_cmp};
 ghost use Rattle.bgp_attr.specs.Routes.{canon};
 
+use attr_intern::{Pool, RecordId};
 use bgp_attr::MAX_CANONICAL;
 use rib_table::PeerTable;
+use std::alloc::AllocError;
 use xb_values::{Buf, Prefix};
-use xbgp_view::write_section;
+use xbgp_view::{RouteView, write_section};
 
 /// Replaces the content of `out` by the canonical section of a prefix's route. False, with `out` unchanged, if the
 /// table has no such route.
@@ -25,6 +28,18 @@ pub fn section_at(table: &PeerTable, prefix: Prefix, out: &mut Buf) -> bool
     };
     write_section(list, out);
     true
+}
+
+/// Interns what a view shows twice, and returns both ids, which are one. The error is want of memory.
+pub fn intern_twice<R: RouteView>(
+    pool: &mut Pool,
+    view: &R,
+) -> Result<(RecordId, RecordId), AllocError>
+    ensures { IfOk result (λ ids. ids.0 ≡ ids.1) }
+{
+    let first = pool.intern(view)?;
+    let second = pool.intern(view)?;
+    Ok((first, second))
 }
 
 #[cfg(test)]

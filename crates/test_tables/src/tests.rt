@@ -1,4 +1,5 @@
-use crate::section_at;
+use crate::{intern_twice, section_at};
+use attr_intern::Pool;
 use bgp_attr::MAX_CANONICAL;
 use bpf_machine::Cause;
 use out_sorted::SortedOut;
@@ -29,6 +30,33 @@ fn a_route_is_kept_and_removed(rt: HostRuntime) -> Result<(), Fail> {
     assert_eq!(rt; table.after(Some(prefix)), None);
     assert!(rt; table.remove(prefix));
     assert!(rt; !table.remove(prefix));
+    Ok(())
+}
+
+#[test]
+fn equal_routes_share_a_record(rt: HostRuntime) -> Result<(), Fail> {
+    let mut pool = Pool::make(rt.alloc())?;
+    let id = pool.intern(&SectionView::new(&SECTION))?;
+    let same = pool.intern(&SectionView::new(&CANONICAL))?;
+    assert!(rt; id == same);
+    pool.share(id);
+    assert_eq!(rt; pool.owners(id), 3);
+    assert_eq!(rt; pool.live(), 1);
+    assert_eq!(rt; pool.get(id).section(), CANONICAL.as_slice());
+    pool.release(id);
+    pool.release(id);
+    pool.release(id);
+    assert_eq!(rt; pool.live(), 0);
+    Ok(())
+}
+
+#[test]
+fn other_routes_have_other_records(rt: HostRuntime) -> Result<(), Fail> {
+    let mut pool = Pool::make(rt.alloc())?;
+    let (id, same) = intern_twice(&mut pool, &SectionView::new(&SECTION))?;
+    let other = pool.intern(&SectionView::new(IGP))?;
+    assert!(rt; id == same && id != other);
+    assert_eq!(rt; pool.live(), 2);
     Ok(())
 }
 
