@@ -8,7 +8,7 @@ ghost use Rattle.out_grouped.specs.Slots.{advertised, is_fresh, taken_back, was_
 ghost use Rattle.out_grouped.specs.Groups.{IsGrouped};
 
 use crate::entries::{Entries, is_told, is_told_as, put, take_back};
-use crate::groups::{Groups, join, leave};
+use crate::groups::{Groups, join, leave, undo_join};
 use std::alloc::{AllocError, Global};
 use xb_values::Prefix;
 
@@ -37,11 +37,11 @@ pub(crate) fn advertise(
     join(groups, alloc, joined, prefix)?;
     match put(entries, alloc, prefix, section) {
         Ok(waited) => {
-            leave(groups, waited.as_deref(), prefix);
+            leave(groups, waited, prefix);
             Ok(!told)
         }
         Err(error) => {
-            leave(groups, joined, prefix);
+            undo_join(groups, joined, prefix);
             Err(error)
         }
     }
@@ -58,6 +58,6 @@ pub(crate) fn withdraw_later(entries: &mut Entries, groups: &mut Groups, prefix:
 {
     let told = is_told(entries, prefix);
     let waited = take_back(entries, prefix);
-    leave(groups, waited.as_deref(), prefix);
+    leave(groups, waited, prefix);
     told
 }

@@ -134,9 +134,12 @@ pub(crate) fn next_gone(entries: &Entries, gone: &mut Waiting) -> Option<Prefix>
     ensures first { result ≡ first_in (keys_where is_gone entries.now.entries) }
     ensures waits { Has gone.new (keys_where is_gone entries.now.entries) }
 {
-    let first = first_gone(entries, gone);
-    gone.start_at(first);
-    first
+    let Some(first) = first_gone(entries, gone) else {
+        gone.start_at(None);
+        return None;
+    };
+    gone.start_at(Some(first));
+    Some(first)
 }
 
 // The first entry from a prefix on that waits to be announced.
@@ -168,9 +171,12 @@ pub(crate) fn next_fresh(entries: &Entries, fresh: &mut Waiting) -> Option<Prefi
     ensures first { result ≡ first_in (keys_where is_fresh entries.now.entries) }
     ensures waits { Has fresh.new (keys_where is_fresh entries.now.entries) }
 {
-    let first = first_fresh(entries, fresh);
-    fresh.start_at(first);
-    first
+    let Some(first) = first_fresh(entries, fresh) else {
+        fresh.start_at(None);
+        return None;
+    };
+    fresh.start_at(Some(first));
+    Some(first)
 }
 
 // The first advertised entry.

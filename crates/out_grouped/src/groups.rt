@@ -7,6 +7,7 @@ ghost use Rattle.std.specs.Ordering.{nat_cmp};
 ghost use Rattle.xb_words.specs.Table.{first_of as first_in};
 ghost use Rattle.out_grouped.specs.Groups.{Joins, Leaves, AreSame};
 
+use crate::entry::copy_of;
 use std::alloc::{AllocError, Global};
 use std::collections::{BTreeMap, BTreeSet};
 use xb_values::Prefix;
@@ -35,7 +36,7 @@ fn begin(
     ensures ok { OnOk result (Joins groups.old groups.new (Some section.now) prefix) }
     ensures err { OnErr result (AreSame groups.old groups.new) }
 {
-    let section = section.to_vec(alloc)?;
+    let section = copy_of(alloc, section)?;
     let mut group = BTreeSet::new(alloc);
     let _ = group.insert(prefix)?;
     let _ = groups.insert(section, group)?;
@@ -86,8 +87,8 @@ pub(crate) fn drop_empty(groups: &mut Groups, section: &[u8])
     }
 }
 
-// A prefix leaves the group of a section.
-fn leave_one(groups: &mut Groups, section: &[u8], prefix: Prefix)
+// A prefix leaves the group of a section, which may then be empty.
+fn remove_from(groups: &mut Groups, section: &[u8], prefix: Prefix)
     ensures { Leaves groups.old groups.new (Some section.now) prefix }
 {
     if let Some(group) = groups.get_mut(section) {
@@ -95,12 +96,28 @@ fn leave_one(groups: &mut Groups, section: &[u8], prefix: Prefix)
     }
 }
 
-/// A prefix leaves the group of a section, if one is given.
-pub(crate) fn leave(groups: &mut Groups, section: Option<&[u8]>, prefix: Prefix)
-    ensures { Leaves groups.old groups.new (option_map (λ s. s.now) section.entry) prefix }
+// A prefix leaves the group of a section.
+fn leave_one(groups: &mut Groups, section: &[u8], prefix: Prefix)
+    ensures { Leaves groups.old groups.new (Some section.now) prefix }
 {
-    if let Some(section) = section {
+    remove_from(groups, section, prefix);
+    drop_empty(groups, section);
+}
+
+/// A prefix leaves the group of the section with which it waited, if it did.
+pub(crate) fn leave(groups: &mut Groups, waited: Option<Vec<u8>>, prefix: Prefix)
+    ensures { Leaves groups.old groups.new (option_map (λ s. s.items) waited) prefix }
+{
+    if let Some(section) = waited {
+        leave_one(groups, &section, prefix);
+    }
+}
+
+/// A prefix leaves the group that it joined, if it did.
+pub(crate) fn undo_join(groups: &mut Groups, joined: Option<&[u8]>, prefix: Prefix)
+    ensures { Leaves groups.old groups.new (option_map (λ s. s.now) joined.entry) prefix }
+{
+    if let Some(section) = joined {
         leave_one(groups, section, prefix);
-        drop_empty(groups, section);
     }
 }

@@ -90,7 +90,7 @@ fn pack_group(
             return;
         }
         tell(entries, prefix);
-        fresh.remove(prefix);
+        fresh.set(prefix, false);
         let _ = group.pop_first();
     }
 }

@@ -81,8 +81,8 @@ impl GroupedOut {
             prefix,
             section,
         )?;
-        self.fresh.put(prefix, waits);
-        self.gone.remove(prefix);
+        self.fresh.set(prefix, waits);
+        self.gone.set(prefix, false);
         Ok(())
     }
 
@@ -91,8 +91,8 @@ impl GroupedOut {
         ensures { self.new ≡ record self.old { adv = without prefix_cmp self.old.adv prefix } }
     {
         let waits = withdraw_later(&mut self.entries, &mut self.groups, prefix);
-        self.gone.put(prefix, waits);
-        self.fresh.remove(prefix);
+        self.gone.set(prefix, waits);
+        self.fresh.set(prefix, false);
     }
 
     /// Replaces the content of `out` by the next UPDATE, which the peer is then told. False, with `out` unchanged, if

@@ -1,12 +1,13 @@
 // The prefixes that wait for a message.
-ghost use Rattle.std.specs.Prelude.{◌≡◌, List, [], ◌∷◌, None, if◌then◌else◌};
+ghost use Rattle.std.specs.Prelude.{◌≡◌, List, [], ◌∷◌, None};
 ghost use Rattle.std.specs.BTreeMap.{is_at};
+ghost use Rattle.std.specs.BTreeMap.Range.{IsLeBy};
 ghost use Rattle.std.specs.BTreeSet.{insert_key};
 ghost use Rattle.std.specs.List.Sorted.{IsStrictlySortedBy};
 ghost use Rattle.std.specs.Set.{remove_key};
 ghost use Rattle.xb_words.specs.Table.{first_of};
 ghost use Rattle.xb_values.specs.Prefixes.{Prefix, prefix_cmp};
-ghost use Rattle.out_grouped.specs.Waits.{Has};
+ghost use Rattle.out_grouped.specs.Waits.{with_wait, Has};
 
 use std::alloc::Global;
 use std::collections::BTreeSet;
@@ -18,6 +19,14 @@ pub(crate) struct Waiting {
     known: BTreeSet<Prefix>,
     // If it is given, none before it waits, and `known` is empty.
     from: Option<Prefix>,
+}
+
+// The earlier of two prefixes.
+fn earlier(a: Prefix, b: Prefix) -> Prefix
+    ensures first { IsLeBy prefix_cmp result a }
+    ensures second { IsLeBy prefix_cmp result b }
+{
+    if a < b { a } else { b }
 }
 
 impl Waiting {
@@ -47,43 +56,41 @@ impl Waiting {
 
     // None before that prefix waits, nor before the first that is known.
     fn forget_known(&mut self, prefix: Prefix)
-        requires { self.old.from ≡ None }
+        requires alone { self.old.from ≡ None }
+        requires ordered { IsStrictlySortedBy prefix_cmp self.old.known.keys }
         ensures { (ps : List Prefix) → Has self.old ps → Has self.new (insert_key prefix_cmp ps prefix) }
     {
         let from = match self.first_known() {
-            Some(first) if first < prefix => first,
-            _ => prefix,
+            Some(first) => earlier(first, prefix),
+            None => prefix,
         };
         self.from = Some(from);
         self.known.clear();
     }
 
-    /// A prefix waits from now on, or waits still.
-    pub(crate) fn add(&mut self, prefix: Prefix)
+    // A prefix waits from now on, or waits still.
+    fn add(&mut self, prefix: Prefix)
         ensures { (ps : List Prefix) → Has self.old ps → Has self.new (insert_key prefix_cmp ps prefix) }
     {
-        match self.from {
-            Some(from) if prefix < from => self.from = Some(prefix),
-            Some(_) => {}
-            None => {
-                if self.known.insert(prefix).is_err() {
-                    self.forget_known(prefix);
-                }
+        let Some(from) = self.from else {
+            if self.known.insert(prefix).is_err() {
+                self.forget_known(prefix);
             }
-        }
+            return;
+        };
+        self.from = Some(earlier(from, prefix));
     }
 
-    /// A prefix waits no longer, if it waited.
-    pub(crate) fn remove(&mut self, prefix: Prefix)
+    // A prefix waits no longer, if it waited.
+    fn remove(&mut self, prefix: Prefix)
         ensures { (ps : List Prefix) → Has self.old ps → Has self.new (remove_key (is_at (prefix_cmp prefix)) ps) }
     {
         let _ = self.known.remove(&prefix);
     }
 
     /// A prefix waits from now on, or waits no longer.
-    pub(crate) fn put(&mut self, prefix: Prefix, waits: bool)
-        ensures { (ps : List Prefix) → Has self.old ps → Has self.new
-            (if waits then insert_key prefix_cmp ps prefix else remove_key (is_at (prefix_cmp prefix)) ps) }
+    pub(crate) fn set(&mut self, prefix: Prefix, waits: bool)
+        ensures { (ps : List Prefix) → Has self.old ps → Has self.new (with_wait ps prefix waits) }
     {
         if waits {
             self.add(prefix);

@@ -28,4 +28,6 @@ pub fn section_at(table: &PeerTable, prefix: Prefix, out: &mut Buf) -> bool
 }
 
 #[cfg(test)]
+mod grouped;
+#[cfg(test)]
 mod tests;
