@@ -91,7 +91,7 @@ fn pack_group(
         }
         tell(entries, prefix);
         fresh.set(prefix, false);
-        let _ = group.pop_first();
+        let _ = group.remove(&prefix);
     }
 }
 

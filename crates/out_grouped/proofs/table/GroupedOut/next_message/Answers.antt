@@ -1,18 +1,29 @@
-use Rattle.std.proofs.Common.{[], Some, None, refl, option_map, is_some, sym, ◌∙◌, ap, subst}
+use Rattle.std.proofs.Common.{[], List, Some, None, refl, is_some, sym, ◌∙◌, ap, subst}
+use Rattle.xb_values.specs.Prefixes.{Prefix}
 use Rattle.bgp_write.specs.Pending.{section_of}
 use Rattle.bgp_write.specs.Written.{Replaces}
 use Rattle.out_grouped.specs.Told.{Told, written_after}
 use Rattle.out_grouped.specs.Slots.{adv_in, told_in}
+use Rattle.out_grouped.specs.Waits.{Has}
 use Rattle.out_grouped.specs.Sending.{announcement_from, withdrawal_from}
 use Rattle.out_grouped.proofs.PendingLemmas.{form-gone, form-fresh, form-none}
 use Rattle.out_grouped.proofs.NextLemmas.{fewer-pending, form-seen, pending-formed, pending-drained}
 use Rattle.out_grouped.proofs.NextLemmas.{told_of-formed}
+use Rattle.out_grouped.proofs.SendingLemmas.{fresh-kept, with-kept}
 use Rattle.out_grouped.proofs.table.GroupedOut.next_message.Goals as goal
 
 pub invariant_of-self : goal.invariant_of-self
 invariant_of-self c =
+    let es = c.self.inside.entries.entries in
+    let new = c.withdraw-self-inside.new.entries.entries in
     let w = c.withdraw-self-inside.ensures in
-    record { sound = w.keeps.sound; gone = w.span; fresh = w.keeps.fresh c.self.inside.fresh c.self.invariant.fresh }
+    record {
+      sound = w.keeps.sound;
+      gone = w.waits;
+      fresh = subst (λ (ps : List Prefix). Has c.self.inside.fresh ps) (sym (fresh-kept es new w.keeps))
+          c.self.invariant.fresh;
+      groups = λ s. c.self.invariant.groups s ∙ sym (with-kept s es new w.keeps);
+    }
 
 pub returns-in-Some : goal.returns-in-Some
 returns-in-Some c =
@@ -57,9 +68,11 @@ pub invariant_of-self-2 : goal.invariant_of-self-2
 invariant_of-self-2 c =
     let w = c.announce-self-inside.ensures in
     record {
-      sound = w.keeps.sound;
-      gone = w.keeps.gone c.first_gone-self-inside.result c.first_gone-self-inside.ensures.span;
-      fresh = w.span;
+      sound = w.sound;
+      gone = subst (λ (ps : List Prefix). Has c.next_gone-self-inside.new.gone ps) (sym w.gone)
+          c.in_default.ensures.waits;
+      fresh = w.waits;
+      groups = w.groups;
     }
 
 pub returns : goal.returns
@@ -76,10 +89,10 @@ returns c =
       formed = sym (ap is_some formed);
       none = pending-formed es t f c.self.invariant.sound c.self.view_is formed;
       told = told_of-formed w.new.entries.entries t (Some f) f.told
-          (w.ensures.keeps.adv ∙ ap (λ (u : Told). u.adv) c.self.view_is) w.ensures.told refl formed;
+          (w.ensures.adv ∙ ap (λ (u : Told). u.adv) c.self.view_is) w.ensures.told refl formed;
       written = subst (λ o. Replaces c.args.out.now w.new.out (written_after o c.args.out.now.octets)) (sym formed)
           w.ensures.written;
       less = fewer-pending es w.new.entries.entries t f c.self.invariant.sound c.self.view_is formed
-          (w.ensures.keeps.adv ∙ ap (λ (u : Told). u.adv) c.self.view_is) w.ensures.told;
+          (w.ensures.adv ∙ ap (λ (u : Told). u.adv) c.self.view_is) w.ensures.told;
       message = w.ensures.message;
     }

@@ -16,7 +16,11 @@ returns-then-is_advertised_as-clause-ok c =
     ∙ ap (λ (t : Told). record t { adv = with_value prefix_cmp t.adv p x }) c.self.view_is
 
 pub invariant_of-self-2 : goal.invariant_of-self-2
-invariant_of-self-2 c = ?
+invariant_of-self-2 c =
+    kept-advertised c.self.inside.gone c.self.inside.fresh c.set-2.new.self c.set.new.self c.self.inside.groups
+    c.advertise.new.groups c.self.inside.entries.entries c.advertise.new.entries.entries c.args.prefix
+    c.args.section.now c.in_ok-waits.waits c.requires c.self.invariant c.in_ok-waits.ensures.ok
+    c.in_ok-waits.ensures.waits c.set-2.ensures c.set.ensures c.in_ok-waits.ensures.groups
 
 pub returns-clause-ok : goal.returns-clause-ok
 returns-clause-ok c =

@@ -7,7 +7,11 @@ use Rattle.out_grouped.proofs.ChangeLemmas.{kept-taken_back, told_of-taken_back}
 use Rattle.out_grouped.proofs.table.GroupedOut.unset.Goals as goal
 
 pub invariant_of-self : goal.invariant_of-self
-invariant_of-self c = ?
+invariant_of-self c =
+    let w = c.withdraw_later-waits in
+    kept-taken_back c.self.inside.gone c.self.inside.fresh c.set.new.self c.set-2.new.self c.self.inside.groups
+    w.new.groups c.self.inside.entries.entries w.new.entries.entries c.args.prefix w.result c.self.invariant
+    w.ensures.after w.ensures.waits c.set.ensures c.set-2.ensures w.ensures.groups
 
 pub returns : goal.returns
 returns c =
