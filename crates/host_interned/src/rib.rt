@@ -214,7 +214,7 @@ impl Rib {
     fn first_sent(&self, peer: u32) -> Option<Prefix>
         requires least { 1 ≤ peer }
         requires most { peer ≤ length self.now.tables }
-        ensures { result
+        ensures prefix { result
             ≡ option_map (λ e. e.0) (entry_after prefix_cmp (tables_in self.now peer).adjin None) }
         ensures rising { IsRising prefix_cmp (tables_in self.now peer).adjin }
     {
