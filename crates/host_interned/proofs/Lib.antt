@@ -1,0 +1,9 @@
+mod ShownLemmas
+mod FollowingLemmas
+mod ExportLemmas
+mod DecideLemmas
+mod UpdateLemmas
+mod SoundLemmas
+mod JudgeLemmas
+mod WalkLemmas
+mod InternedLemmas
