@@ -1,6 +1,6 @@
 -- One function of a core after another.
 use Rattle.std.proofs.Common.{◌≡◌, refl, sym, ◌∙◌, ap, subst, ℕ, ◌+◌, List, [], ◌∷◌, fold, length, arith}
-use Rattle.std.specs.Prelude.{Result, Ok, Err, OnOk, MatchResult}
+use Rattle.std.specs.Prelude.{Result, Ok, Err, OnOk, OnErr, MatchResult}
 use Rattle.std.specs.declared.alloc.AllocError.{AllocError}
 use Rattle.std.specs.List.{range_with_len}
 use Rattle.std.specs.Result.{IsErr}
@@ -107,6 +107,12 @@ pub goes_ok : {P : Type 0} (r : Result (Unit {0}) AllocError) (f : Setup → Rou
     → (P → Does f a c) → IsReady c → OnOk r P → Goes r f a c
 goes_ok (Ok u) f a c to ready known = to known
 goes_ok (Err e) f a c to ready known = ready
+
+-- the same where an error says what makes the core ready
+pub goes_both : {P Q : Type 0} (r : Result (Unit {0}) AllocError) (f : Setup → Routed → Routed) (a c : Core)
+    → (P → Does f a c) → (Q → IsReady c) → OnOk r P → OnErr r Q → Goes r f a c
+goes_both (Ok u) f a c to ready ok err = to ok
+goes_both (Err e) f a c to ready ok err = ready err
 
 -- there was no memory, and the core may be used again
 pub goes_err : (r : Result (Unit {0}) AllocError) (f : Setup → Routed → Routed) (a c : Core) → IsReady c → IsErr r
