@@ -1,3 +1,5 @@
+mod MappedLemmas
+mod OwnerLemmas
 mod ShownLemmas
 mod FollowingLemmas
 mod ExportLemmas

@@ -1,6 +1,5 @@
 -- What a rib shows, by the ids of records that its tables hold (this project's own).
-use Rattle.std.specs.Prelude.{ℕ, ◌-◌, ◌+◌, ◌==◌, ◌≡◌, ◌≤◌, List, [], ◌∷◌, map, min, Option, Some, None, if◌then◌else◌}
-use Rattle.std.specs.Prelude.{fold, IfSome}
+use Rattle.std.specs.Prelude.{ℕ, ◌-◌, ◌+◌, ◌==◌, ◌≡◌, ◌<◌, ◌≤◌, List, [], map, Option, Some, None, if◌then◌else◌}
 use Rattle.std.specs.Option.{option_map}
 use Rattle.std.specs.List.{slice_index_or, slice_set, sum_by}
 use Rattle.std.specs.Map.{values_of}
@@ -118,9 +117,9 @@ abbrev pub given_up : Records → Option ℕ → Records
 given_up records None = records
 given_up records (Some id) = released records id
 
--- each record has an owner for each time that an id is held, up to the greatest number
+-- each record has an owner for each time that an id is held, if it has fewer than the greatest number
 abbrev pub AreOwned : Records → (ℕ → ℕ) → Type 0
-AreOwned records held = (id : ℕ) → min (held id) most_owners ≤ owners_at records id
+AreOwned records held = (id : ℕ) → owners_at records id < most_owners → held id ≤ owners_at records id
 
 -- each record is sound
 abbrev pub AreSound : Records → Type 0
