@@ -8,4 +8,5 @@ mod UpdateLemmas
 mod SoundLemmas
 mod JudgeLemmas
 mod WalkLemmas
+mod StartLemmas
 mod InternedLemmas

@@ -5,5 +5,5 @@ use Rattle.host_interned.proofs.start.core_of.Goals as goal
 
 pub returns : goal.returns
 returns c =
-    is_started c.args.setup c.args.tables _ c.local_of.ensures.kept c.requires refl
-    (c.in_ok-engine.ensures ∙ ap (started c.args.setup.manifest) c.local_of.ensures.value) refl refl refl
+    is_started c.args.setup c.args.rib _ c.local_of.ensures.kept c.requires refl
+    (c.in_ok-engine.ensures ∙ ap (started c.args.setup.manifest) c.local_of.ensures.value) refl
