@@ -1,12 +1,14 @@
 -- Owners of records, and what ids mean, when an id is interned or given up.
 use Rattle.std.proofs.Common.{◌≡◌, ◌≢◌, ◌≤◌, ◌<◌, ◌+◌, ◌-◌, refl, sym, ◌∙◌, ap, subst, ℕ, List, [], ◌∷◌, map, arith}
+use Rattle.std.specs.Prelude.{min}
 use Rattle.std.proofs.Common.{inl, inr, Option, Some, None, true, false, cond}
 use Rattle.std.specs.Prelude.{◌==◌, IfSome, IsSome, if◌then◌else◌}
 use Rattle.std.specs.Option.{option_map}
 use Rattle.std.specs.List.{AllByRecursion}
 use Rattle.std.specs.Ordering.{nat_cmp, is_eq}
 use Rattle.std.specs.declared.cmp.Ordering.TheVariants.{Equal}
-use Rattle.std.proofs.lemmas.Bool.Decides.{eqb_tells}
+use Rattle.std.proofs.lemmas.Bool.Decides.{eqb_tells, leb_tells}
+use Rattle.std.proofs.Math.Nat.{le-min, min-eq_left}
 use Rattle.std.proofs.lemmas.Cmp.{nat_cmp_total}
 use Rattle.std.proofs.lemmas.Map.Lookups.{exact_unsigned}
 use Rattle.xb_words.proofs.TableLemmas.{value_at-with_value}
@@ -57,3 +59,45 @@ best_by-same old new (e ∷ es) all =
     ap (λ (r : Option Route). (e.0, record { source = (e.1).source; route = route_or r }) ∷ best_by new es) all.0
     ∙ ap (λ (t : List (Prefix × Best)). (e.0, record { source = (e.1).source; route = meant old (e.1).«record» }) ∷ t)
     (best_by-same old new es all.1)
+
+-- ---- owners
+
+one_less : (w most h : ℕ) → (w < most → h ≤ w) → min (w + 1) most < most → h + 1 ≤ min (w + 1) most
+one_less w most h owned fewer = elim (leb_tells (w + 1) most) [
+  | inl fits ↦
+      let is : min (w + 1) most ≡ w + 1 = min-eq_left fits.1 in
+      let few : h ≤ w = owned (omega (arith, fits.1)) in
+      omega (arith, is, few)
+  | inr over ↦
+      let all : most ≤ min (w + 1) most = le-min (omega (arith, over.1)) (omega arith) in
+      absurd (omega (arith, all, fewer))
+]
+
+-- an id that is held lives
+pub lives : (records : Records) (held : ℕ → ℕ) (id : ℕ) → AreOwned records held → 1 ≤ held id
+    → IsSome (record_at records id)
+lives records held id owned least = elim (leb_tells most_owners (owners_at records id)) [
+  | inl most ↦ has_owner (record_at records id) (omega (arith, most.1))
+  | inr fewer ↦
+      let few = owned id fewer.1 in
+      has_owner (record_at records id) (omega (arith, few, least))
+]
+
+-- an id that is interned is held once more
+pub owned_interned : (records : Records) (id : ℕ) (route : Route) (held : ℕ → ℕ) → AreOwned records held
+    → AreOwned (interned records id route) (λ k. held k + same_id k id)
+owned_interned records id route held owned k fewer = elim (eqb_tells k id) [
+  | inl here ↦
+      let there : owners_at (interned records id route) k ≡ one_more (owners_at records id) =
+      ap (owners_at (interned records id route)) here.1 ∙ ap owners_of (record_at-interned records id route) in
+      let once : same_id k id ≡ 1 = rw here.0 refl in
+      let same : held k ≡ held id = ap held here.1 in
+      let next = one_less (owners_at records id) most_owners (held id) (owned id) (omega (arith, there, fewer)) in
+      omega (arith, there, once, same, next)
+  | inr apart ↦
+      let there : owners_at (interned records id route) k ≡ owners_at records k =
+      ap owners_of (record_at-interned-other records id route k apart.1) in
+      let never : same_id k id ≡ 0 = rw apart.0 refl in
+      let few = owned k (omega (arith, there, fewer)) in
+      omega (arith, there, never, few)
+]
