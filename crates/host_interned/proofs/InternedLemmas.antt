@@ -70,8 +70,10 @@ module _ (a : Core) (p : ℕ) (ready : IsReady a) (least : 1 ≤ p) (most : p �
   pub core_tells : (r : RibView) (new : Tables) (out written : Buffer) (result : Bool)
       → Shows a.rib.own a.rib.best (with_peer a.rib p new) r
       → result ≡ is_some (form Grouped (tables_in a.rib p).adv (tables_in a.rib p).told)
-      → new ≡ record (tables_in a.rib p) { told = told_after
-      (form Grouped (tables_in a.rib p).adv (tables_in a.rib p).told) (tables_in a.rib p).told }
+      → new ≡ record (tables_in a.rib p) {
+        told = told_after
+            (form Grouped (tables_in a.rib p).adv (tables_in a.rib p).told) (tables_in a.rib p).told;
+      }
       → Replaces out written (written_after (form Grouped (tables_in a.rib p).adv (tables_in a.rib p).told) out.octets)
       → Tells (form Grouped (tables_of (routing_of a) p).adv (tables_of (routing_of a) p).told) p (routing_of a)
       (routing_with r.best a.engine.engine r.tables) out written result

@@ -183,6 +183,10 @@ impl Interned {
         self.sessions.routes().chosen()
     }
 
+    // TODO: with `ensures value { result.now ≡ self.now.routes }` at `Sessions::routes` of spk_session, `routes` says
+    // that it hands out `self.now.sessions.routes.chosen`, and this call says of the same ids:
+    //     ensures routes { map (λ e. (e.0, route_at result.now (e.1).«record»)) self.now.sessions.routes.chosen
+    //         ≡ map (λ e. (e.0, Some (e.1).route)) (⟦<Interned as Host>⟧.speaker self.now).routing.best }
     /// The records of all routes that the host keeps.
     pub fn records(&self) -> &Pool {
         self.sessions.routes().records()
