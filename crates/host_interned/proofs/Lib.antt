@@ -1,5 +1,6 @@
 mod MappedLemmas
 mod OwnerLemmas
+mod RibLemmas
 mod ShownLemmas
 mod FollowingLemmas
 mod ExportLemmas

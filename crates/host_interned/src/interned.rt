@@ -1,6 +1,5 @@
 // The routes' half of a speaker, and the host.
 ghost use Rattle.std.specs.Prelude.{◌≡◌, map, Some};
-ghost use Rattle.std.specs.List.{AllByRecursion};
 ghost use Rattle.attr_intern.specs.Pools.{route_at};
 ghost use Rattle.xb_domain.specs.declared.output.Packing.TheVariants.{Grouped};
 
