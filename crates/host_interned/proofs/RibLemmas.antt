@@ -1,9 +1,9 @@
 -- What a rib shows if its records change, and the ids that it holds mean the same.
-use Rattle.std.proofs.Common.{◌≡◌, ◌≤◌, ◌+◌, refl, sym, ◌∙◌, ap, subst, ℕ, List, [], ◌∷◌, map, arith, true}
+use Rattle.std.proofs.Common.{◌≡◌, ◌≤◌, ◌+◌, refl, sym, ◌∙◌, ap, subst, ℕ, List, [], ◌∷◌, map, arith, inl, inr}
 use Rattle.std.specs.Prelude.{◌==◌, if◌then◌else◌}
 use Rattle.std.specs.List.{sum_by, AllByRecursion}
 use Rattle.std.specs.Map.{values_of}
-use Rattle.std.proofs.Math.Dec.{eqb-refl}
+use Rattle.std.proofs.lemmas.Bool.Decides.{eqb_tells}
 use Rattle.xb_values.specs.Prefixes.{Prefix}
 use Rattle.bgp_attr.specs.Routes.{Route}
 use Rattle.xbgp_view.specs.Views.{Routes}
@@ -21,7 +21,10 @@ abbrev pub KeepsMeaning : Records → Records → (ℕ → ℕ) → Type 0
 KeepsMeaning old new held = (id : ℕ) → 1 ≤ held id → route_at new id ≡ route_at old id
 
 same_self : (id : ℕ) → same_id id id ≡ 1
-same_self id = ap (λ b. if b then 1 else 0) (eqb-refl id)
+same_self id = elim (eqb_tells id id) [
+  | inl here ↦ rw here.0 refl
+  | inr apart ↦ absurd (apart.1 refl)
+]
 
 -- what holds of each id that entries hold holds of all of them
 held_each : {X : Type 0} (id_of : X → ℕ) (P : ℕ → Type 0) (es : List (Prefix × X))
