@@ -63,12 +63,14 @@ path_value [] = []
 path_value (n ∷ ns) = segment_octets 2 (record { is_set = false; numbers = n ∷ ns })
 
 -- the degree of preference of an internal peer's route: 100, 110 or 120
+abbrev pub internal_preference : ℕ → Drawn Route
+internal_preference = do
+  d ← draw 3
+  drawn (well_known LOCAL_PREF (four_octets (100 + 10 * d)) ∷ [])
+
+-- an external peer's route has none
 unfoldable pub drawn_preference : ℕ → ℕ → Drawn Route
-drawn_preference p =
-    if is_work_internal p then (do
-      d ← draw 3
-      drawn (well_known LOCAL_PREF (four_octets (100 + 10 * d)) ∷ []))
-    else drawn []
+drawn_preference p x = if is_work_internal p then internal_preference x else drawn [] x
 
 -- the route that a peer announces
 abbrev pub route : ℕ → ℕ → List ℕ → Route → Route
@@ -91,13 +93,20 @@ announcement section prefix =
 abbrev pub withdrawal : Prefix → List ℕ
 withdrawal prefix = update_message (record { withdrawn = prefix_octets prefix; section = []; nlri = [] })
 
--- one update in four withdraws
+-- the message that announces a prefix
+abbrev pub drawn_announcement : ℕ → Prefix → ℕ → Drawn (List ℕ)
+drawn_announcement p prefix = do
+  r ← drawn_route p
+  drawn (announcement (canon r) prefix)
+
+-- the message of a kind, of which there are four: 0 withdraws, the others announce
+abbrev pub message_of_kind : ℕ → ℕ → Prefix → ℕ → Drawn (List ℕ)
+message_of_kind kind p prefix x = if kind == 0 then drawn (withdrawal prefix) x else drawn_announcement p prefix x
+
 unfoldable pub drawn_message : ℕ → Prefix → ℕ → Drawn (List ℕ)
 drawn_message p prefix = do
   kind ← draw 4
-  (if kind == 0 then drawn (withdrawal prefix) else (do
-    r ← drawn_route p
-    drawn (announcement (canon r) prefix)))
+  message_of_kind kind p prefix
 
 -- an update of one of the peers
 unfoldable pub update : ℕ → Drawn Event

@@ -30,7 +30,8 @@ fn append(octets: &mut Octets, more: &[u8])
 // Appends an attribute for which there is room.
 fn append_attribute(section: &mut Octets, code: u8, value: &[u8])
     requires { length section.old.items + 3 + length value.now ≤ LONGEST }
-    ensures { section.new.items ≡ section.old.items ++ canonical (well_known code value.now) }
+    ensures attribute { section.new.items ≡ section.old.items ++ canonical (well_known code value.now) }
+    ensures len { length section.new.items ≡ length section.old.items + 3 + length value.now }
 {
     append(section, &[WELL_KNOWN, code, value.len() as u8]);
     append(section, value);
@@ -60,7 +61,7 @@ fn append_numbers(generator: &mut Generator, count: u8, path: &mut Octets)
         ≡ path.old.items ++ flat_map two_octets (as_numbers count generator.old.x).value }
     ensures next { generator.new.x ≡ (as_numbers count generator.old.x).x }
 {
-    for _drawn in 0..count {
+    'numbers: for _drawn in 0..count {
         let number = 1 + generator.draw(64_000) as u16;
         append(path, &number.to_be_bytes());
     }
@@ -88,10 +89,11 @@ fn append_preference(generator: &mut Generator, peer: u32, section: &mut Octets)
         ≡ section.old.items ++ canon (drawn_preference peer generator.old.x).value }
     ensures next { generator.new.x ≡ (drawn_preference peer generator.old.x).x }
 {
-    if is_work_internal(peer) {
-        let preference = 100 + 10 * generator.draw(3);
-        append_attribute(section, LOCAL_PREF, &preference.to_be_bytes());
+    if !is_work_internal(peer) {
+        return;
     }
+    let preference = 100 + 10 * generator.draw(3);
+    append_attribute(section, LOCAL_PREF, &preference.to_be_bytes());
 }
 
 /// Draws the section of an announcement.

@@ -1,7 +1,8 @@
 //! An update: the peer, the prefix, and the message that announces or withdraws it.
 ghost use Rattle.std.specs.Prelude.{◌≡◌, ◌<◌, ◌≤◌, length};
 ghost use Rattle.xb_domain.specs.Events.{octets};
-ghost use Rattle.bgp_attr.specs.Routes.{canon};
+ghost use Rattle.bgp_write.specs.Packers.{packed_so_far, buffer_of, reference_of};
+ghost use Rattle.bgp_write.specs.Packings.{packed_message, with_prefix};
 ghost use Rattle.bgp_write.specs.Written.{Replaces};
 ghost use Rattle.work_gen.specs.Work.{network, drawn_network, announcement, withdrawal, drawn_message, update};
 
@@ -32,12 +33,22 @@ fn draw_network(generator: &mut Generator) -> Prefix
     network(a, b)
 }
 
+// Packs one more prefix, for which there is room.
+fn push_fitting(packer: &mut Packer<'_>, prefix: Prefix)
+    requires { length (packed_message (with_prefix (packed_so_far packer.old) prefix)) ≤ MAX_MESSAGE }
+    ensures same_reference { reference_of packer.new ≡ reference_of packer.old }
+    ensures capacity { (buffer_of packer.new).capacity ≡ (buffer_of packer.old).capacity }
+    ensures packed { packed_so_far packer.new ≡ with_prefix (packed_so_far packer.old) prefix }
+{
+    let _ = packer.push(prefix);
+}
+
 fn write_withdrawal(out: &mut Buf, prefix: Prefix)
     requires { MAX_MESSAGE ≤ out.old.capacity }
     ensures { Replaces out.old out.new (withdrawal prefix) }
 {
     let mut packer = Packer::withdrawals(out);
-    let _ = packer.push(prefix);
+    push_fitting(&mut packer, prefix);
     packer.finish();
 }
 
@@ -47,7 +58,7 @@ fn write_announcement(out: &mut Buf, section: &[u8], prefix: Prefix)
     ensures { Replaces out.old out.new (announcement section.now prefix) }
 {
     let mut packer = Packer::announce(out, section);
-    let _ = packer.push(prefix);
+    push_fitting(&mut packer, prefix);
     packer.finish();
 }
 
@@ -59,12 +70,13 @@ fn draw_message(generator: &mut Generator, peer: u32, prefix: Prefix, out: &mut 
     ensures message { Replaces out.old out.new (drawn_message peer prefix generator.old.x).value }
     ensures next { generator.new.x ≡ (drawn_message peer prefix generator.old.x).x }
 {
-    if generator.draw(4) == 0 {
+    let kind = generator.draw(4);
+    if kind == 0 {
         write_withdrawal(out, prefix);
-    } else {
-        let section = draw_section(generator, peer);
-        write_announcement(out, section.as_slice(), prefix);
+        return;
     }
+    let section = draw_section(generator, peer);
+    write_announcement(out, section.as_slice(), prefix);
 }
 
 /// Draws an update. The number of its peer is returned; its message replaces the content of `out`.

@@ -1,0 +1,76 @@
+-- The peers one after another, and the octets of a path.
+use Rattle.std.proofs.Common.{◌≡◌, ℕ, zero, suc, ◌+◌, ◌-◌, ◌*◌, ◌<◌, ◌≤◌, Bool, true, false, List, [], ◌∷◌, ◌++◌}
+use Rattle.std.proofs.Common.{length, take, drop, flat_map, refl, ap, sym, ◌∙◌, subst, arith, add-one, append_assoc}
+use Rattle.std.proofs.Common.{length-append}
+use Rattle.std.specs.Prelude.{◌==◌, if◌then◌else◌}
+use Rattle.std.proofs.lemmas.List.{append-nil, length-take}
+use Rattle.xb_words.specs.Octets.{two_octets, four_octets}
+use Rattle.xb_values.specs.Prefixes.{Prefix, prefix_octets, octets_for}
+use Rattle.xbgp_config.specs.WorkConfig.{work_peer, work_peers, is_work_internal}
+use Rattle.work_gen.specs.Draws.{Drawn, draw}
+use Rattle.work_gen.specs.Work.{as_numbers, path_numbers, path_value}
+use Rattle.work_gen.specs.Views.{path_front}
+
+-- the peers after one
+pub drop-work_peers : (p : ℕ) → p < 4 → drop p work_peers ≡ (p + 1) ∷ drop (p + 1) work_peers
+drop-work_peers zero h = refl
+drop-work_peers (suc zero) h = refl
+drop-work_peers (suc (suc zero)) h = refl
+drop-work_peers (suc (suc (suc zero))) h = refl
+drop-work_peers (suc (suc (suc (suc k)))) h = absurd (omega (arith, h))
+
+-- there is none after the last
+pub drop-last_peer : (p : ℕ) → 4 ≤ p → p ≤ 4 → drop p work_peers ≡ []
+drop-last_peer p least most = let last : p ≡ 4 = omega arith in rw last
+
+-- as many AS numbers are drawn as are asked for
+pub length-as_numbers : (n x : ℕ) → length (as_numbers n x).value ≡ n
+length-as_numbers zero x = refl
+length-as_numbers (suc n) x = ap suc (length-as_numbers n (draw 64000 x).x)
+
+-- each takes two octets
+pub length-flat_map-two_octets : (ns : List ℕ) → length (flat_map two_octets ns) ≡ 2 * length ns
+length-flat_map-two_octets [] = refl
+length-flat_map-two_octets (n ∷ ns) =
+    let ih = length-flat_map-two_octets ns in omega (arith, length-append (two_octets n) (flat_map two_octets ns), ih)
+
+-- one more AS number is drawn, and appended
+pub as_numbers-appended : (before : List ℕ) (n i x d y : ℕ) → i < n → d ≡ (draw 64000 x).value → y ≡ (draw 64000 x).x
+    → (before ++ two_octets (1 + d)) ++ flat_map two_octets (as_numbers (n - (i + 1)) y).value
+    ≡ before ++ flat_map two_octets (as_numbers (n - i) x).value
+as_numbers-appended before n i x d y h value next =
+    let more : n - i ≡ suc (n - (i + 1)) = omega arith in rw (more, value, next, append_assoc)
+
+pub as_numbers-next : (n i x y : ℕ) → i < n → y ≡ (draw 64000 x).x
+    → (as_numbers (n - (i + 1)) y).x ≡ (as_numbers (n - i) x).x
+as_numbers-next n i x y h next = let more : n - i ≡ suc (n - (i + 1)) = omega arith in rw (more, next)
+
+-- the octets of a path, by whether its peer is internal
+path_by : (internal : Bool) (asn : ℕ) (ns : List ℕ)
+    → (if internal then (if length ns == 0 then [] else 2 ∷ length ns ∷ []) else 2 ∷ (length ns + 1) ∷ two_octets asn)
+        ++ flat_map two_octets ns
+    ≡ path_value (if internal then ns else asn ∷ ns)
+path_by true asn [] = refl
+path_by true asn (n ∷ ns) = refl
+path_by false asn ns = rw add-one
+
+-- a path is its front and the octets of the drawn numbers
+pub path_front-path_value : (p n : ℕ) (ns : List ℕ) → length ns ≡ n
+    → path_front p n ++ flat_map two_octets ns ≡ path_value (path_numbers p ns)
+path_front-path_value p n ns e = subst
+    (λ (m : ℕ). path_front p m ++ flat_map two_octets ns ≡ path_value (path_numbers p ns)) e
+    (path_by (is_work_internal p) (work_peer p).asn ns)
+
+-- the front has at most four octets
+front_by : (internal none : Bool) (asn n : ℕ)
+    → length (if internal then (if none then [] else 2 ∷ n ∷ []) else 2 ∷ (n + 1) ∷ two_octets asn) ≤ 4
+front_by true true asn n = omega arith
+front_by true false asn n = omega arith
+front_by false none asn n = omega arith
+
+pub length-path_front : (p n : ℕ) → length (path_front p n) ≤ 4
+length-path_front p n = front_by (is_work_internal p) (n == 0) (work_peer p).asn n
+
+-- a prefix has at most five octets
+pub length-prefix_octets : (p : Prefix) → length (prefix_octets p) ≤ 5
+length-prefix_octets p = omega (arith, length-take (octets_for p.len) (four_octets p.addr))
