@@ -2,14 +2,22 @@
 use Rattle.std.proofs.Common.{◌≡◌, ℕ, zero, suc, ◌+◌, ◌-◌, ◌*◌, ◌<◌, ◌≤◌, Bool, true, false, List, [], ◌∷◌, ◌++◌}
 use Rattle.std.proofs.Common.{length, take, drop, flat_map, refl, ap, sym, ◌∙◌, subst, arith, add-one, append_assoc}
 use Rattle.std.proofs.Common.{length-append}
-use Rattle.std.specs.Prelude.{◌==◌, if◌then◌else◌}
+use Rattle.std.proofs.Common.{Ok, Err, Some, None}
+use Rattle.std.specs.Prelude.{◌==◌, if◌then◌else◌, nat_lt, Option, Result, IfSome, IsOk, OnOk}
+use Rattle.std.specs.Option.{option_map}
+use Rattle.std.proofs.lemmas.Bool.{le-ltb, false≢true}
 use Rattle.std.proofs.lemmas.List.{append-nil, length-take}
+use Rattle.xb_domain.specs.Events.{Event}
+use Rattle.xb_domain.specs.Views.{event_view}
+use Rattle.xb_domain.specs.declared.event.Event as lent
+use Rattle.bgp_attr.specs.Routes.{canonical}
 use Rattle.xb_words.specs.Octets.{two_octets, four_octets}
 use Rattle.xb_values.specs.Prefixes.{Prefix, prefix_octets, octets_for}
 use Rattle.xbgp_config.specs.WorkConfig.{work_peer, work_peers, is_work_internal}
 use Rattle.work_gen.specs.Draws.{Drawn, draw}
-use Rattle.work_gen.specs.Work.{as_numbers, path_numbers, path_value}
-use Rattle.work_gen.specs.Views.{path_front}
+use Rattle.work_gen.specs.declared.work.Told.{Told}
+use Rattle.work_gen.specs.Work.{as_numbers, path_numbers, path_value, update, updates, well_known}
+use Rattle.work_gen.specs.Views.{path_front, told_view, drains_at}
 
 -- the peers after one
 pub drop-work_peers : (p : ℕ) → p < 4 → drop p work_peers ≡ (p + 1) ∷ drop (p + 1) work_peers
@@ -22,6 +30,31 @@ drop-work_peers (suc (suc (suc (suc k)))) h = absurd (omega (arith, h))
 -- there is none after the last
 pub drop-last_peer : (p : ℕ) → 4 ≤ p → p ≤ 4 → drop p work_peers ≡ []
 drop-last_peer p least most = let last : p ≡ 4 = omega arith in rw last
+
+-- the updates from one on
+pub updates-first : (x done left : ℕ) → 0 < left
+    → updates x done left ≡ (update x).value ∷ drains_at (done + 1) ++ updates (update x).x (done + 1) (left - 1)
+updates-first x done zero h = absurd (omega (arith, h))
+updates-first x done (suc left) h = let less : suc left - 1 ≡ left = omega arith in rw less
+
+-- a told event is of a peer, and so is the event that shows it
+pub told-shown : (P : Event → Type 0) (e : Option lent.Event) (t : Option Told) (bytes : List ℕ)
+    → option_map event_view e ≡ option_map (told_view bytes) t → IfSome t (λ t. P (told_view bytes t))
+    → IfSome e (λ e. P (event_view e))
+told-shown P None t bytes same h = tt
+told-shown P (Some e) None bytes same h = absurd (cc same)
+told-shown P (Some e) (Some t) bytes same h =
+    let equal : event_view e ≡ told_view bytes t = cc same in subst P (sym equal) h
+
+-- an attribute whose value has at most 255 octets
+pub canonical-short : (code : ℕ) (value : List ℕ) → length value ≤ 255
+    → canonical (well_known code value) ≡ 64 ∷ code ∷ length value ∷ value
+canonical-short code value h = let short : nat_lt 255 (length value) ≡ false = le-ltb 255 (length value) h in rw short
+
+-- a call that returns Ok leaves what it says of Ok
+pub left_by_ok : {A E P : Type 0} (r : Result A E) → IsOk r → OnOk r P → P
+left_by_ok (Ok x) ok left = left
+left_by_ok (Err e) ok left = absurd (false≢true ok)
 
 -- as many AS numbers are drawn as are asked for
 pub length-as_numbers : (n x : ℕ) → length (as_numbers n x).value ≡ n
@@ -48,7 +81,7 @@ as_numbers-next n i x y h next = let more : n - i ≡ suc (n - (i + 1)) = omega 
 -- the octets of a path, by whether its peer is internal
 path_by : (internal : Bool) (asn : ℕ) (ns : List ℕ)
     → (if internal then (if length ns == 0 then [] else 2 ∷ length ns ∷ []) else 2 ∷ (length ns + 1) ∷ two_octets asn)
-        ++ flat_map two_octets ns
+    ++ flat_map two_octets ns
     ≡ path_value (if internal then ns else asn ∷ ns)
 path_by true asn [] = refl
 path_by true asn (n ∷ ns) = refl

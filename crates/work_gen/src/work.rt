@@ -116,7 +116,9 @@ impl Work {
                 Some(Told::Event(Event::Drain(1)))
             }
             Step::Update => {
-                let peer = draw_update(&mut self.generator, octets);
+                let mut generator = self.generator;
+                let peer = draw_update(&mut generator, octets);
+                self.generator = generator;
                 self.left -= 1;
                 self.done += 1;
                 self.step = after_update(self.done);

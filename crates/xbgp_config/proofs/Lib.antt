@@ -1,3 +1,2 @@
 pub mod AddressLemmas
 pub mod ConfigLemmas
-pub mod WorkConfigLemmas
