@@ -7,7 +7,7 @@ use Rattle.std.specs.Prelude.{◌==◌, if◌then◌else◌, nat_lt, Option, Res
 use Rattle.std.specs.Option.{option_map}
 use Rattle.std.proofs.lemmas.Bool.{le-ltb, false≢true}
 use Rattle.std.proofs.lemmas.List.{append-nil, length-take}
-use Rattle.xb_domain.specs.Events.{Event}
+use Rattle.xb_domain.specs.Events.{Event, drain}
 use Rattle.xb_domain.specs.Views.{event_view}
 use Rattle.xb_domain.specs.declared.event.Event as lent
 use Rattle.bgp_attr.specs.Routes.{canonical}
@@ -17,7 +17,8 @@ use Rattle.xbgp_config.specs.WorkConfig.{work_peer, work_peers, is_work_internal
 use Rattle.work_gen.specs.Draws.{Drawn, draw}
 use Rattle.work_gen.specs.declared.work.Told.{Told}
 use Rattle.work_gen.specs.Work.{as_numbers, path_numbers, path_value, update, updates, well_known}
-use Rattle.work_gen.specs.Views.{path_front, told_view, drains_at}
+use Rattle.work_gen.specs.declared.step.Step.TheVariants as steps
+use Rattle.work_gen.specs.Views.{path_front, told_view, drains_at, drains_after, after_session, to_come}
 
 -- the peers after one
 pub drop-work_peers : (p : ℕ) → p < 4 → drop p work_peers ≡ (p + 1) ∷ drop (p + 1) work_peers
@@ -30,6 +31,24 @@ drop-work_peers (suc (suc (suc (suc k)))) h = absurd (omega (arith, h))
 -- there is none after the last
 pub drop-last_peer : (p : ℕ) → 4 ≤ p → p ≤ 4 → drop p work_peers ≡ []
 drop-last_peer p least most = let last : p ≡ 4 = omega arith in rw last
+
+-- the events after the session of a peer begin with the next one's session
+pub after_session-more : (p x done left : ℕ) → p < 4
+    → to_come (steps.Start (p + 1)) x done left ≡ after_session p x done left
+after_session-more p x done left h = rw (drop-work_peers p h)
+
+-- and with the updates after the last one's
+pub after_session-last : (p x done left : ℕ) → 4 ≤ p → p ≤ 4
+    → to_come steps.Update x done left ≡ after_session p x done left
+after_session-last p x done left least most = rw (drop-last_peer p least most)
+
+-- the drains after that of a peer begin with the next one's
+pub drains_after-more : (p : ℕ) → p < 4 → drain (p + 1) ∷ drains_after (p + 1) ≡ drains_after p
+drains_after-more p h = rw (drop-work_peers p h)
+
+-- and there are none after the last one's
+pub drains_after-last : (p : ℕ) → 4 ≤ p → p ≤ 4 → drains_after p ≡ []
+drains_after-last p least most = rw (drop-last_peer p least most)
 
 -- the updates from one on
 pub updates-first : (x done left : ℕ) → 0 < left
