@@ -5,6 +5,7 @@ use Rattle.std.proofs.Common.{length-append}
 use Rattle.std.proofs.Common.{Ok, Err, Some, None}
 use Rattle.std.specs.Prelude.{◌==◌, if◌then◌else◌, nat_lt, Option, Result, IfSome, IsOk, OnOk}
 use Rattle.std.specs.Option.{option_map}
+use Rattle.std.proofs.Math.Dec.{eqb-suc-zero}
 use Rattle.std.proofs.lemmas.Bool.{le-ltb, false≢true}
 use Rattle.std.proofs.lemmas.List.{append-nil, length-take}
 use Rattle.xb_domain.specs.Events.{Event, drain}
@@ -103,7 +104,7 @@ path_by : (internal : Bool) (asn : ℕ) (ns : List ℕ)
     ++ flat_map two_octets ns
     ≡ path_value (if internal then ns else asn ∷ ns)
 path_by true asn [] = refl
-path_by true asn (n ∷ ns) = refl
+path_by true asn (n ∷ ns) = rw (eqb-suc-zero (length ns))
 path_by false asn ns = rw add-one
 
 -- a path is its front and the octets of the drawn numbers

@@ -21,6 +21,13 @@ returns-clause-short c =
     let n = c.draw-count.result in
     let y = c.draw-count.new.self.x in
     let ns = (as_numbers n y).value in
-    omega (arith, ap length c.append_numbers.ensures.numbers, ap length c.path_front-path.ensures,
-      length-append c.path_front-path.result.items (flat_map two_octets ns), length-flat_map-two_octets ns,
-      length-as_numbers n y, length-path_front c.args.peer n, c.draw-count.ensures.small)
+    omega (
+      arith,
+      ap length c.append_numbers.ensures.numbers,
+      ap length c.path_front-path.ensures,
+      length-append c.path_front-path.result.items (flat_map two_octets ns),
+      length-flat_map-two_octets ns,
+      length-as_numbers n y,
+      length-path_front c.args.peer n,
+      c.draw-count.ensures.small,
+    )
