@@ -8,11 +8,14 @@
 //! whoever has one knows it.
 //!
 //! A module reads one table or list: `speaker`, `networks`, `peers`, `costs`; `texts` reads addresses, `lists` has
-//! what is read. A configuration does not change after it was read, and nothing here says what a speaker does with it.
+//! what is read. [`Config::for_work`] is the one configuration that no text gives: generated events are played on it,
+//! and `specs/WorkConfig` says what it is. A configuration does not change after it was read, and nothing here says
+//! what a speaker does with it.
 #![tactic(auto)]
 
 mod config;
 mod costs;
+mod for_work;
 mod limits;
 mod lists;
 mod networks;
@@ -21,6 +24,7 @@ mod speaker;
 mod texts;
 
 pub use config::{Config, read_config};
+pub use for_work::{WORK_AS, WORK_PEERS, is_work_internal, work_peer};
 pub use limits::{
     DEFAULT_HOLD, DEFAULT_LOCAL_PREF, MAX_AS, MAX_COSTS, MAX_HOLD, MAX_NETWORKS, MAX_PEERS,
     MIN_HOLD,
