@@ -1,6 +1,6 @@
 -- What a change of the prefixes that wait does to what is kept of them.
 use Rattle.std.proofs.Common.{is_some}
-use Rattle.std.proofs.Common.{◌≡◌, true, false, inl, inr, List, [], ◌∷◌, Option, Some, None, refl, sym, ◌∙◌, ap, subst}
+use Rattle.std.proofs.Common.{◌≡◌, true, inl, inr, List, [], ◌∷◌, Option, Some, None, ◌∙◌, ap, subst}
 use Rattle.std.specs.BTreeMap.{is_at}
 use Rattle.std.specs.BTreeMap.Range.{IsLeBy}
 use Rattle.std.specs.BTreeSet.{insert_key}

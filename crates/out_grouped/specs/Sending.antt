@@ -7,7 +7,7 @@ use Rattle.xb_wire.specs.Messages.{update_message}
 use Rattle.xb_wire.specs.declared.numbers.TheConstants.{EMPTY_UPDATE, MAX_MESSAGE}
 use Rattle.bgp_write.specs.Packings.{Packed, packed_message}
 use Rattle.bgp_write.specs.Pending.{Formed, fitting}
-use Rattle.out_grouped.specs.Slots.{Slots, adv_in, told_in, is_gone, waits_with, keys_where}
+use Rattle.out_grouped.specs.Slots.{Slots, told_in, is_gone, waits_with, keys_where}
 
 -- the message of what is packed, and what the slots say was told by then
 abbrev pub formed_by : Packed → Slots → Formed

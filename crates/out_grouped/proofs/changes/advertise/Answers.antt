@@ -1,4 +1,4 @@
-use Rattle.std.proofs.Common.{◌≡◌, Option, List, ℕ, Some, None, cond, option_map, refl, sym, ◌∙◌, ap, subst}
+use Rattle.std.proofs.Common.{◌≡◌, Option, List, ℕ, Some, None, cond, option_map, refl, sym, subst}
 use Rattle.xb_words.specs.Table.{value_at}
 use Rattle.xb_values.specs.Prefixes.{prefix_cmp}
 use Rattle.out_grouped.specs.Slots.{Slots, advertised}

@@ -1,7 +1,4 @@
-use Rattle.std.proofs.Common.{◌≡◌, None, Some, option_map, sym, ◌∙◌, ap, subst}
-use Rattle.std.specs.BTreeMap.Range.{IsLeBy}
-use Rattle.std.specs.List.{AllByRecursion}
-use Rattle.xb_values.specs.Prefixes.{prefix_cmp}
+use Rattle.std.proofs.Common.{Some, option_map, sym, ◌∙◌, ap, subst}
 use Rattle.out_grouped.specs.Slots.{is_fresh, keys_where}
 use Rattle.out_grouped.specs.Waits.{HasBy}
 use Rattle.out_grouped.proofs.SlotLemmas.{first-lent}

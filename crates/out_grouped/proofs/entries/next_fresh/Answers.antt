@@ -1,4 +1,3 @@
-use Rattle.std.proofs.Common.{Some, None, sym, ◌∙◌, ap}
 use Rattle.out_grouped.specs.Slots.{is_fresh, keys_where}
 use Rattle.out_grouped.proofs.SlotLemmas.{IsStrictlySortedBy-keys_where}
 use Rattle.out_grouped.proofs.entries.next_fresh.Goals as goal

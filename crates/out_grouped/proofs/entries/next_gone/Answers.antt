@@ -1,4 +1,3 @@
-use Rattle.std.proofs.Common.{Some, None, sym, ◌∙◌, ap}
 use Rattle.out_grouped.specs.Slots.{is_gone, keys_where}
 use Rattle.out_grouped.proofs.SlotLemmas.{IsStrictlySortedBy-keys_where}
 use Rattle.out_grouped.proofs.entries.next_gone.Goals as goal

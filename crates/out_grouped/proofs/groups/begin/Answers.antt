@@ -1,4 +1,4 @@
-use Rattle.std.proofs.Common.{◌≡◌, ℕ, List, Some, sym, ◌∙◌, ap, subst}
+use Rattle.std.proofs.Common.{ℕ, List, Some, sym, ◌∙◌, ap, subst}
 use Rattle.std.specs.BTreeMap.{UpdatesBy}
 use Rattle.std.specs.BTreeSet.{insert_key}
 use Rattle.xb_values.specs.Prefixes.{Prefix, prefix_cmp}

@@ -1,4 +1,4 @@
-use Rattle.std.proofs.Common.{◌≡◌, Result, Ok, Err, OnErr, sym, Some}
+use Rattle.std.proofs.Common.{Result, Ok, Err, OnErr, sym}
 use Rattle.std.specs.BTreeSet.{insert_key}
 use Rattle.xb_values.specs.Prefixes.{prefix_cmp}
 use Rattle.out_grouped.proofs.GroupLemmas.{group_at-lent, AreSame-lent}

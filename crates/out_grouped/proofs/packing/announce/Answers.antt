@@ -1,4 +1,4 @@
-use Rattle.std.proofs.Common.{ℕ, List, ◌≤◌, length, sym, ◌∙◌, ap, subst}
+use Rattle.std.proofs.Common.{ℕ, List, ◌≤◌, length, sym, subst}
 use Rattle.xb_wire.specs.declared.numbers.TheConstants.{MAX_SECTION}
 use Rattle.out_grouped.proofs.GroupLemmas.{IsGrouped-same}
 use Rattle.out_grouped.proofs.SendingLemmas.{section-short}

@@ -1,5 +1,4 @@
-use Rattle.std.proofs.Common.{◌≡◌, List, [], ℕ, Some, sym, ◌∙◌, ap, subst}
-use Rattle.xb_values.specs.Prefixes.{Prefix}
+use Rattle.std.proofs.Common.{◌≡◌, List, [], ℕ, sym, ◌∙◌, ap, subst}
 use Rattle.bgp_write.specs.Packers.{packed_so_far}
 use Rattle.bgp_write.specs.Packings.{Packed, announcing}
 use Rattle.bgp_write.specs.Pending.{section_of}

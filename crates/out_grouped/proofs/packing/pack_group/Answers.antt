@@ -1,4 +1,4 @@
-use Rattle.std.proofs.Common.{◌≡◌, ◌<◌, Some, List, refl, sym, ◌∙◌, ap, subst, length, arith}
+use Rattle.std.proofs.Common.{List, refl, sym, ◌∙◌, ap, subst, length, arith}
 use Rattle.std.specs.BTreeMap.{is_at}
 use Rattle.std.specs.Set.{remove_key}
 use Rattle.std.proofs.lemmas.Bool.{false≢true}

@@ -1,7 +1,6 @@
-use Rattle.std.proofs.Common.{◌≡◌, Some, refl, sym, ◌∙◌, ap, subst, length, ◌≤◌, List, ◌∷◌}
+use Rattle.std.proofs.Common.{refl, sym, ◌∙◌, ap, subst, List, ◌∷◌}
 use Rattle.std.proofs.lemmas.Bool.{false≢true}
-use Rattle.xb_words.specs.Table.{without}
-use Rattle.xb_values.specs.Prefixes.{Prefix, prefix_cmp}
+use Rattle.xb_values.specs.Prefixes.{Prefix}
 use Rattle.bgp_write.specs.Packers.{packed_so_far}
 use Rattle.bgp_write.specs.Packings.{Packed, withdrawing}
 use Rattle.out_grouped.specs.Slots.{is_gone, keys_where}

@@ -1,4 +1,4 @@
-use Rattle.std.proofs.Common.{Some, false, refl, sym, ap, ◌∙◌}
+use Rattle.std.proofs.Common.{sym, ap, ◌∙◌}
 use Rattle.xb_words.specs.Table.{with_value}
 use Rattle.xb_values.specs.Prefixes.{prefix_cmp}
 use Rattle.out_grouped.specs.Told.{Told}

@@ -1,4 +1,4 @@
-use Rattle.std.proofs.Common.{Some, refl, sym, ap, ◌∙◌}
+use Rattle.std.proofs.Common.{refl, ap, ◌∙◌}
 use Rattle.xb_words.specs.Table.{value_at, without}
 use Rattle.xb_values.specs.Prefixes.{prefix_cmp}
 use Rattle.out_grouped.specs.Told.{Told}
