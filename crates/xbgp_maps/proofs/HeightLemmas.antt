@@ -12,34 +12,34 @@ use Rattle.xbgp_maps.specs.Trees.{IsTurnedLeft, LeansLeft, LeansRight}
 -- a tree is balanced if its sides are and its height is level with theirs
 pub IsBalanced-of_sides : (t : Tree) → IsLevel (height_of t) (height_of (left_of t)) (height_of (right_of t)) → IsBalanced (left_of t) → IsBalanced (right_of t) → IsBalanced t
 IsBalanced-of_sides Leaf level left right = tt
-IsBalanced-of_sides (Fork' p key value height l r) level left right = (level, left, right)
+IsBalanced-of_sides (Fork' p value key l r height) level left right = (level, left, right)
 
 -- a balanced tree is level at its root
 pub IsLevel-of_tree : (t : Tree) → 0 < height_of t → IsBalanced t → IsLevel (height_of t) (height_of (left_of t)) (height_of (right_of t))
 IsLevel-of_tree Leaf some b = absurd (omega (arith, some))
-IsLevel-of_tree (Fork' p key value height l r) some b = b.0
+IsLevel-of_tree (Fork' p value key l r height) some b = b.0
 
 -- the left side of a balanced tree is balanced
 pub IsBalanced-left_of : (t : Tree) → IsBalanced t → IsBalanced (left_of t)
 IsBalanced-left_of Leaf b = tt
-IsBalanced-left_of (Fork' p key value height l r) b = b.1
+IsBalanced-left_of (Fork' p value key l r height) b = b.1
 
 -- and its right side
 pub IsBalanced-right_of : (t : Tree) → IsBalanced t → IsBalanced (right_of t)
 IsBalanced-right_of Leaf b = tt
-IsBalanced-right_of (Fork' p key value height l r) b = b.2
+IsBalanced-right_of (Fork' p value key l r height) b = b.2
 
 -- no side is higher than the tree
 pub height_of-left_of : (t : Tree) → IsBalanced t → height_of (left_of t) ≤ height_of t
 height_of-left_of Leaf b = omega arith
-height_of-left_of (Fork' p key value height l r) b =
+height_of-left_of (Fork' p value key l r height) b =
     let above = b.0.above in
     omega (arith, above)
 
 -- the same at the right
 pub height_of-right_of : (t : Tree) → IsBalanced t → height_of (right_of t) ≤ height_of t
 height_of-right_of Leaf b = omega arith
-height_of-right_of (Fork' p key value height l r) b =
+height_of-right_of (Fork' p value key l r height) b =
     let above = b.0.above in
     omega (arith, above)
 
@@ -131,12 +131,12 @@ LeansRight-turned t n u some b order turned l r h =
 pub entries_of-levels : (k : ℕ) (t : Tree) → IsBalanced t → k + k ≤ height_of t → 2 ^ k ≤ length (entries_of t) + 1
 entries_of-levels zero t b high = omega arith
 entries_of-levels (suc k) Leaf b high = absurd (omega (arith, high))
-entries_of-levels (suc k) (Fork' p key value height l r) b high =
+entries_of-levels (suc k) (Fork' p value key l r height) b high =
     let above = b.0.above in
     let left = b.0.left in
     let right = b.0.right in
     let more : 2 ^ suc k ≡ 2 ^ k + 2 ^ k = two-pow-succ k in
-    omega (arith, more, entries_of-levels k l b.1 (omega (arith, above, left, right, high)), entries_of-levels k r b.2 (omega (arith, above, left, right, high)), length-append (entries_of l) ((key.items, value.items) ∷ entries_of r))
+    omega (arith, more, entries_of-levels k l b.1 (omega (arith, above, left, right, high)), entries_of-levels k r b.2 (omega (arith, above, left, right, high)), length-append (entries_of l) ((key, value.items) ∷ entries_of r))
 
 -- a tree of as many entries as a map may have is low
 pub IsLow-height_of : (t : Tree) (n : ℕ) → IsBalanced t → length (entries_of t) ≤ n → n < 2 ^ 32 → IsLow (height_of t)

@@ -1,11 +1,11 @@
 -- Keys whose first octets differ as numbers have the order of these, and others have that of the rest.
-use Rattle.std.proofs.Common.{◌≡◌, ℕ, zero, suc, ◌+◌, ◌*◌, ◌<◌, ◌≤◌, List, [], ◌∷◌, length, drop, get_or, refl, ◌∙◌, ap, arith}
+use Rattle.std.proofs.Common.{◌≡◌, ℕ, zero, suc, ◌+◌, ◌*◌, ◌<◌, ◌≤◌, List, [], ◌∷◌, length, drop, get_or, refl, sym, ◌∙◌, ap, arith}
 use Rattle.std.specs.declared.cmp.Ordering.TheVariants.{Less, Greater}
 use Rattle.std.specs.Ordering.{nat_cmp, ordering_then, ordering_reverse}
 use Rattle.std.proofs.lemmas.Cmp.{nat_list_cmp_total, by_ranked, ranked}
 use Rattle.std.proofs.lemmas.Nat.{same_from_place}
 use Rattle.xb_words.specs.Octets.{AreOctets}
-use Rattle.xbgp_maps.specs.Keys.{head_of}
+use Rattle.xbgp_maps.specs.Keys.{head_of, IsHeadOf}
 use Rattle.xbgp_maps.specs.Mappings.{key_cmp}
 
 -- 256 to the n
@@ -72,13 +72,31 @@ lead-same (suc n) (x ∷ xs) (y ∷ ys) p q long wide same =
     (λ e more. absurd (omega (arith, more, parts.0)))
 
 -- the head of a key is the number of its first eight octets
-pub lead-head_of : (s : List ℕ) → 8 ≤ length s → lead 8 s ≡ head_of s
-lead-head_of [] long = absurd (omega (arith, long))
-lead-head_of (a ∷ []) long = absurd (omega (arith, long))
-lead-head_of (a ∷ b ∷ []) long = absurd (omega (arith, long))
-lead-head_of (a ∷ b ∷ c ∷ []) long = absurd (omega (arith, long))
-lead-head_of (a ∷ b ∷ c ∷ d ∷ []) long = absurd (omega (arith, long))
-lead-head_of (a ∷ b ∷ c ∷ d ∷ e ∷ []) long = absurd (omega (arith, long))
-lead-head_of (a ∷ b ∷ c ∷ d ∷ e ∷ f ∷ []) long = absurd (omega (arith, long))
-lead-head_of (a ∷ b ∷ c ∷ d ∷ e ∷ f ∷ g ∷ []) long = absurd (omega (arith, long))
-lead-head_of (a ∷ b ∷ c ∷ d ∷ e ∷ f ∷ g ∷ h ∷ s) long = omega arith
+pub lead-head_of : (s : List ℕ) → lead 8 s ≡ head_of s
+lead-head_of [] = omega arith
+lead-head_of (a ∷ []) = omega arith
+lead-head_of (a ∷ b ∷ []) = omega arith
+lead-head_of (a ∷ b ∷ c ∷ []) = omega arith
+lead-head_of (a ∷ b ∷ c ∷ d ∷ []) = omega arith
+lead-head_of (a ∷ b ∷ c ∷ d ∷ e ∷ []) = omega arith
+lead-head_of (a ∷ b ∷ c ∷ d ∷ e ∷ f ∷ []) = omega arith
+lead-head_of (a ∷ b ∷ c ∷ d ∷ e ∷ f ∷ g ∷ []) = omega arith
+lead-head_of (a ∷ b ∷ c ∷ d ∷ e ∷ f ∷ g ∷ h ∷ s) = omega arith
+
+-- a lower head, a lower key
+pub head-less : (a b : List ℕ) (x y : ℕ) → IsHeadOf a x → IsHeadOf b y → x < y → key_cmp a b ≡ Less
+head-less a b x y p q less =
+    let here = p.value in
+    let there = q.value in
+    lead-less 8 a b p.octets q.octets (omega (arith, less, here, there, lead-head_of a, lead-head_of b))
+
+-- a greater head, a greater key
+pub head-greater : (a b : List ℕ) (x y : ℕ) → IsHeadOf a x → IsHeadOf b y → y < x → key_cmp a b ≡ Greater
+head-greater a b x y p q less =
+    let here = p.value in
+    let there = q.value in
+    lead-greater 8 a b p.octets q.octets (omega (arith, less, here, there, lead-head_of a, lead-head_of b))
+
+-- where the heads are the same, what comes after the first eight octets decides
+pub head-same : (a b : List ℕ) → AreOctets a → AreOctets b → 8 ≤ length a → 8 ≤ length b → head_of a ≡ head_of b → key_cmp a b ≡ key_cmp (drop 8 a) (drop 8 b)
+head-same a b p q long wide same = lead-same 8 a b p q long wide (lead-head_of a ∙ same ∙ sym (lead-head_of b))

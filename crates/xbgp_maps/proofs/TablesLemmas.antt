@@ -98,7 +98,7 @@ spare_below m spare room k w table there =
     omega (arith, fewer, count, capacity)
 
 -- a table without a key, whose node is kept
-pub table_gone : {B : Type 0} (f : B → Node) (m : Mapping) (all boxes : List B) (b : B) (room more : ℕ) (k : List ℕ) → IsTable m (map f boxes) room → all ≡ boxes ++ b ∷ [] → value_in m k ≡ Some (f b).value.items → (f b).key.items ≡ k → IsAlone (f b) → room ≤ more → IsTable (taken_from m k) (map f all) more
+pub table_gone : {B : Type 0} (f : B → Node) (m : Mapping) (all boxes : List B) (b : B) (room more : ℕ) (k : List ℕ) → IsTable m (map f boxes) room → all ≡ boxes ++ b ∷ [] → value_in m k ≡ Some (f b).value.items → (f b).key ≡ k → IsAlone (f b) → room ≤ more → IsTable (taken_from m k) (map f all) more
 table_gone f m all boxes b room more k table joined there key alone wider =
     let fewer : suc (length (without key_cmp m.entries k)) ≡ length m.entries = length-without key_cmp m.entries k (f b).value.items there in
     let another : length (map f (boxes ++ b ∷ [])) ≡ suc (length (map f boxes)) = simp (length-map, length-append) (omega arith) in

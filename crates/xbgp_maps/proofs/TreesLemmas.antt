@@ -1,8 +1,9 @@
 -- What the calls on a node's tree are on the trees at its sides.
-use Rattle.std.proofs.Common.{◌≡◌, ℕ, ◌<◌, Bool, true, false, List, [], ◌∷◌, ◌++◌, length, Some, refl, sym, arith, length-append}
+use Rattle.std.proofs.Common.{◌≡◌, ℕ, ◌<◌, Bool, true, false, List, [], ◌∷◌, ◌++◌, length, Option, None, Some, refl, sym, arith, length-append}
 use Rattle.std.specs.declared.cmp.Ordering.TheVariants.{Less, Equal, Greater}
 use Rattle.std.proofs.lemmas.Cmp.{nat_list_cmp_total}
 use Rattle.std.proofs.lemmas.Map.Lookups.{exact_bytes}
+use Rattle.std.specs.Option.{option_or}
 use Rattle.xb_words.specs.Table.{value_at, with_value, without, entry_after, first_of, IsRising}
 use Rattle.xbgp_maps.specs.declared.node.Node.{Node}
 use Rattle.xbgp_maps.specs.Journals.{when_done}
@@ -31,28 +32,36 @@ pub right_rises : (n : Node) → IsRising key_cmp (entries_below n) → IsRising
 right_rises n rising = middle.IsRising-right key_cmp nat_list_cmp_total (entries_of n.left) (entry_of n) (entries_of n.right) rising
 
 -- a look-up of a lower key is one at the left
-pub value_left : (n : Node) (q : List ℕ) → key_cmp q n.key.items ≡ Less → IsRising key_cmp (entries_below n) → value_at key_cmp (entries_below n) q ≡ value_at key_cmp (entries_of n.left) q
+pub value_left : (n : Node) (q : List ℕ) → key_cmp q n.key ≡ Less → IsRising key_cmp (entries_below n) → value_at key_cmp (entries_below n) q ≡ value_at key_cmp (entries_of n.left) q
 value_left n q less rising = middle.value_at-less key_cmp nat_list_cmp_total q (entries_of n.left) (entry_of n) (entries_of n.right) less rising
 
 -- a look-up of the node's key
-pub value_here : (n : Node) (q : List ℕ) → key_cmp q n.key.items ≡ Equal → IsRising key_cmp (entries_below n) → value_at key_cmp (entries_below n) q ≡ Some n.value.items
+pub value_here : (n : Node) (q : List ℕ) → key_cmp q n.key ≡ Equal → IsRising key_cmp (entries_below n) → value_at key_cmp (entries_below n) q ≡ Some n.value.items
 value_here n q same rising = middle.value_at-equal key_cmp nat_list_cmp_total q (entries_of n.left) (entry_of n) (entries_of n.right) same rising
 
 -- a look-up of a greater key is one at the right
-pub value_right : (n : Node) (q : List ℕ) → key_cmp q n.key.items ≡ Greater → IsRising key_cmp (entries_below n) → value_at key_cmp (entries_below n) q ≡ value_at key_cmp (entries_of n.right) q
+pub value_right : (n : Node) (q : List ℕ) → key_cmp q n.key ≡ Greater → IsRising key_cmp (entries_below n) → value_at key_cmp (entries_below n) q ≡ value_at key_cmp (entries_of n.right) q
 value_right n q more rising = middle.value_at-greater key_cmp nat_list_cmp_total q (entries_of n.left) (entry_of n) (entries_of n.right) more rising
 
 -- the entry after a lower key is one at the left, or the node's
-pub after_left : (n : Node) (q : List ℕ) → key_cmp q n.key.items ≡ Less → entry_after key_cmp (entries_below n) (Some q) ≡ middle.or_entry (entry_after key_cmp (entries_of n.left) (Some q)) (entry_of n)
+pub after_left : (n : Node) (q : List ℕ) → key_cmp q n.key ≡ Less → entry_after key_cmp (entries_below n) (Some q) ≡ middle.or_entry (entry_after key_cmp (entries_of n.left) (Some q)) (entry_of n)
 after_left n q less = middle.entry_after-less key_cmp nat_list_cmp_total q (entries_of n.left) (entry_of n) (entries_of n.right) less
 
 -- the entry after the node's key is the first at the right
-pub after_here : (n : Node) (q : List ℕ) → key_cmp q n.key.items ≡ Equal → IsRising key_cmp (entries_below n) → entry_after key_cmp (entries_below n) (Some q) ≡ entry_after key_cmp (entries_of n.right) (Some q)
+pub after_here : (n : Node) (q : List ℕ) → key_cmp q n.key ≡ Equal → IsRising key_cmp (entries_below n) → entry_after key_cmp (entries_below n) (Some q) ≡ entry_after key_cmp (entries_of n.right) (Some q)
 after_here n q same rising = middle.entry_after-equal key_cmp nat_list_cmp_total q (entries_of n.left) (entry_of n) (entries_of n.right) same rising
 
 -- the entry after a greater key is one at the right
-pub after_right : (n : Node) (q : List ℕ) → key_cmp q n.key.items ≡ Greater → IsRising key_cmp (entries_below n) → entry_after key_cmp (entries_below n) (Some q) ≡ entry_after key_cmp (entries_of n.right) (Some q)
+pub after_right : (n : Node) (q : List ℕ) → key_cmp q n.key ≡ Greater → IsRising key_cmp (entries_below n) → entry_after key_cmp (entries_below n) (Some q) ≡ entry_after key_cmp (entries_of n.right) (Some q)
 after_right n q more rising = middle.entry_after-greater key_cmp nat_list_cmp_total q (entries_of n.left) (entry_of n) (entries_of n.right) more rising
+
+-- on the way to the left, the node's entry is the last one found
+pub found_left : (n : Node) (q : List ℕ) (found : Option (List ℕ × List ℕ)) → key_cmp q n.key ≡ Less → option_or (entry_after key_cmp (entries_of n.left) (Some q)) (Some (entry_of n)) ≡ option_or (entry_after key_cmp (entries_below n) (Some q)) found
+found_left n q found less = rw (after_left n q less) (by (entry_after key_cmp (entries_of n.left) (Some q)))
+  where
+    by : (o : Option (List ℕ × List ℕ)) → option_or o (Some (entry_of n)) ≡ option_or (middle.or_entry o (entry_of n)) found
+    by None = refl
+    by (Some e) = refl
 
 first_cut : (ls : Entries) (e : List ℕ × List ℕ) (rs : Entries) → first_of (ls ++ e ∷ rs) ≡ middle.or_entry (first_of ls) e
 first_cut [] e rs = refl
@@ -75,49 +84,49 @@ pub values_here : (n : Node) (w : ℕ) → HaveWidth w (entries_below n) → len
 values_here n w a = (AllByRecursion-right (λ e. length e.1 ≡ w) (entries_of n.left) (entry_of n ∷ entries_of n.right) a.all).0
 
 -- a lower key is written at the left
-pub with_left : (n : Node) (q v : List ℕ) → key_cmp q n.key.items ≡ Less → with_value key_cmp (entries_below n) q v ≡ with_value key_cmp (entries_of n.left) q v ++ entry_of n ∷ entries_of n.right
+pub with_left : (n : Node) (q v : List ℕ) → key_cmp q n.key ≡ Less → with_value key_cmp (entries_below n) q v ≡ with_value key_cmp (entries_of n.left) q v ++ entry_of n ∷ entries_of n.right
 with_left n q v less = middle.with_value-less key_cmp nat_list_cmp_total q v (entries_of n.left) (entry_of n) (entries_of n.right) less
 
 -- the node's key is written at the node
-pub with_here : (n : Node) (q v : List ℕ) → key_cmp q n.key.items ≡ Equal → IsRising key_cmp (entries_below n) → with_value key_cmp (entries_below n) q v ≡ entries_of n.left ++ (n.key.items, v) ∷ entries_of n.right
+pub with_here : (n : Node) (q v : List ℕ) → key_cmp q n.key ≡ Equal → IsRising key_cmp (entries_below n) → with_value key_cmp (entries_below n) q v ≡ entries_of n.left ++ (n.key, v) ∷ entries_of n.right
 with_here n q v same rising = middle.with_value-equal key_cmp nat_list_cmp_total q v (entries_of n.left) (entry_of n) (entries_of n.right) same rising
 
 -- a greater key is written at the right
-pub with_right : (n : Node) (q v : List ℕ) → key_cmp q n.key.items ≡ Greater → IsRising key_cmp (entries_below n) → with_value key_cmp (entries_below n) q v ≡ entries_of n.left ++ entry_of n ∷ with_value key_cmp (entries_of n.right) q v
+pub with_right : (n : Node) (q v : List ℕ) → key_cmp q n.key ≡ Greater → IsRising key_cmp (entries_below n) → with_value key_cmp (entries_below n) q v ≡ entries_of n.left ++ entry_of n ∷ with_value key_cmp (entries_of n.right) q v
 with_right n q v more rising = middle.with_value-greater key_cmp nat_list_cmp_total q v (entries_of n.left) (entry_of n) (entries_of n.right) more rising
 
 -- a value is replaced at the left, if the key is there
-pub over_left : (n : Node) (q v : List ℕ) (there : Bool) → key_cmp q n.key.items ≡ Less → when_done there (with_value key_cmp (entries_below n) q v) (entries_below n) ≡ when_done there (with_value key_cmp (entries_of n.left) q v) (entries_of n.left) ++ entry_of n ∷ entries_of n.right
+pub over_left : (n : Node) (q v : List ℕ) (there : Bool) → key_cmp q n.key ≡ Less → when_done there (with_value key_cmp (entries_below n) q v) (entries_below n) ≡ when_done there (with_value key_cmp (entries_of n.left) q v) (entries_of n.left) ++ entry_of n ∷ entries_of n.right
 over_left n q v true less = with_left n q v less
 over_left n q v false less = refl
 
 -- a value is replaced at the right, if the key is there
-pub over_right : (n : Node) (q v : List ℕ) (there : Bool) → key_cmp q n.key.items ≡ Greater → IsRising key_cmp (entries_below n) → when_done there (with_value key_cmp (entries_below n) q v) (entries_below n) ≡ entries_of n.left ++ entry_of n ∷ when_done there (with_value key_cmp (entries_of n.right) q v) (entries_of n.right)
+pub over_right : (n : Node) (q v : List ℕ) (there : Bool) → key_cmp q n.key ≡ Greater → IsRising key_cmp (entries_below n) → when_done there (with_value key_cmp (entries_below n) q v) (entries_below n) ≡ entries_of n.left ++ entry_of n ∷ when_done there (with_value key_cmp (entries_of n.right) q v) (entries_of n.right)
 over_right n q v true more rising = with_right n q v more rising
 over_right n q v false more rising = refl
 
 -- a lower key is removed at the left
-pub without_left : (n : Node) (q : List ℕ) → key_cmp q n.key.items ≡ Less → IsRising key_cmp (entries_below n) → without key_cmp (entries_below n) q ≡ without key_cmp (entries_of n.left) q ++ entry_of n ∷ entries_of n.right
+pub without_left : (n : Node) (q : List ℕ) → key_cmp q n.key ≡ Less → IsRising key_cmp (entries_below n) → without key_cmp (entries_below n) q ≡ without key_cmp (entries_of n.left) q ++ entry_of n ∷ entries_of n.right
 without_left n q less rising = middle.without-less key_cmp nat_list_cmp_total q (entries_of n.left) (entry_of n) (entries_of n.right) less rising
 
 -- the node's key is removed with its node
-pub without_here : (n : Node) (q : List ℕ) → key_cmp q n.key.items ≡ Equal → IsRising key_cmp (entries_below n) → without key_cmp (entries_below n) q ≡ entries_of n.left ++ entries_of n.right
+pub without_here : (n : Node) (q : List ℕ) → key_cmp q n.key ≡ Equal → IsRising key_cmp (entries_below n) → without key_cmp (entries_below n) q ≡ entries_of n.left ++ entries_of n.right
 without_here n q same rising = middle.without-equal key_cmp nat_list_cmp_total q (entries_of n.left) (entry_of n) (entries_of n.right) same rising
 
 -- a greater key is removed at the right
-pub without_right : (n : Node) (q : List ℕ) → key_cmp q n.key.items ≡ Greater → IsRising key_cmp (entries_below n) → without key_cmp (entries_below n) q ≡ entries_of n.left ++ entry_of n ∷ without key_cmp (entries_of n.right) q
+pub without_right : (n : Node) (q : List ℕ) → key_cmp q n.key ≡ Greater → IsRising key_cmp (entries_below n) → without key_cmp (entries_below n) q ≡ entries_of n.left ++ entry_of n ∷ without key_cmp (entries_of n.right) q
 without_right n q more rising = middle.without-greater key_cmp nat_list_cmp_total q (entries_of n.left) (entry_of n) (entries_of n.right) more rising
 
 -- two keys of one order are the same octets
-pub same_key : (n : Node) (q : List ℕ) → key_cmp q n.key.items ≡ Equal → n.key.items ≡ q
-same_key n q same = sym (exact_bytes q n.key.items same)
+pub same_key : (n : Node) (q : List ℕ) → key_cmp q n.key ≡ Equal → n.key ≡ q
+same_key n q same = sym (exact_bytes q n.key same)
 
 -- what each call needs at the sides of a node, and what it does there
 pub ruleset sides = (smaller_left, smaller_right, left_rises, right_rises)
 
 pub ruleset look_up = (sides, value_left, value_here, value_right)
 
-pub ruleset walk = (sides, first_below, after_left, after_here, after_right)
+pub ruleset walk = (sides, first_below, found_left, after_here, after_right)
 
 pub ruleset write = (look_up, with_left, with_here, with_right)
 

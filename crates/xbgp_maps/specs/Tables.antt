@@ -8,7 +8,7 @@ use Rattle.xbgp_maps.specs.Trees.{IsAlone}
 
 -- a node that is alone and has the widths of a map
 pub record IsBlank (shape : MapShape) (n : Node) : Type 0 where
-  pub key : length n.key.items ≡ shape.key
+  pub key : length n.key ≡ shape.key
   pub value : length n.value.items ≡ shape.value
   pub alone : IsAlone n
 

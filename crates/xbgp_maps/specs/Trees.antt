@@ -9,12 +9,12 @@ use Rattle.xbgp_maps.specs.Mappings.{key_cmp}
 -- the entries in order
 abbrev pub entries_of : Tree → List (List ℕ × List ℕ)
 entries_of Leaf = []
-entries_of (Fork' p key value height left right) =
-    entries_of left ++ (key.items, value.items) ∷ entries_of right
+entries_of (Fork' p value key left right height) =
+    entries_of left ++ (key, value.items) ∷ entries_of right
 
 -- the entry of one node
 abbrev pub entry_of : Node → List ℕ × List ℕ
-entry_of n = (n.key.items, n.value.items)
+entry_of n = (n.key, n.value.items)
 
 -- the entries of a node and of all below it, in order
 abbrev pub entries_below : Node → List (List ℕ × List ℕ)
@@ -28,7 +28,7 @@ IsAlone n = (n.left ≡ Leaf) × (n.right ≡ Leaf)
 abbrev pub IsTaken : List (List ℕ × List ℕ) → List ℕ → Option Node → Type 0
 IsTaken es key taken =
     MatchOption taken (value_at key_cmp es key ≡ None)
-    (λ n. (value_at key_cmp es key ≡ Some n.value.items) × (n.key.items ≡ key) × IsAlone n)
+    (λ n. (value_at key_cmp es key ≡ Some n.value.items) × (n.key ≡ key) × IsAlone n)
 
 -- each value has a width
 pub record HaveWidth (width : ℕ) (es : List (List ℕ × List ℕ)) : Type 0 where
@@ -37,17 +37,17 @@ pub record HaveWidth (width : ℕ) (es : List (List ℕ × List ℕ)) : Type 0 w
 -- the height that a tree knows of itself
 abbrev pub height_of : Tree → ℕ
 height_of Leaf = 0
-height_of (Fork' p key value height left right) = height
+height_of (Fork' p value key left right height) = height
 
 -- the tree at the left, which is empty in an empty tree
 abbrev pub left_of : Tree → Tree
 left_of Leaf = Leaf
-left_of (Fork' p key value height left right) = left
+left_of (Fork' p value key left right height) = left
 
 -- the same at the right
 abbrev pub right_of : Tree → Tree
 right_of Leaf = Leaf
-right_of (Fork' p key value height left right) = right
+right_of (Fork' p value key left right height) = right
 
 -- a height is one over that of the higher side, and the sides' heights differ by one at most
 pub record IsLevel (height l r : ℕ) : Type 0 where
@@ -58,7 +58,7 @@ pub record IsLevel (height l r : ℕ) : Type 0 where
 -- each node is level
 abbrev pub IsBalanced : Tree → Type 0
 IsBalanced Leaf = Unit {0}
-IsBalanced (Fork' p key value height left right) =
+IsBalanced (Fork' p value key left right height) =
     IsLevel height (height_of left) (height_of right) × IsBalanced left × IsBalanced right
 
 -- a node and each node below it are level

@@ -5,6 +5,7 @@ ghost use Rattle.xbgp_maps.specs.Trees.{entries_of, entries_below, height_of, le
 ghost use Rattle.xbgp_maps.specs.Trees.{IsBalancedBelow, IsLow, IsMended, IsTurnedLeft, IsTurnedRight};
 ghost use Rattle.xbgp_maps.specs.Trees.{LeansLeft, LeansRight};
 
+use crate::key::Key;
 use std::alloc::{AllocError, Global};
 use std::mem;
 use xb_words::zeros;
@@ -20,11 +21,12 @@ pub(crate) enum Tree {
 #[cycle(tree)]
 #[derive(Drop)]
 pub(crate) struct Node {
-    pub key: Vec<u8>,
     pub value: Vec<u8>,
-    height: u8,
+    // What a way down reads is near each other.
+    pub key: Key,
     pub left: Tree,
     pub right: Tree,
+    height: u8,
 }
 
 impl Tree {
@@ -49,16 +51,16 @@ impl Tree {
 impl Node {
     /// A node that is alone, with room for a key and a value.
     pub fn blank(alloc: Global, key: usize, value: usize) -> Result<Box<Node>, AllocError>
-        ensures key { IfOk result (λ n. length n.value.key.items ≡ key) }
+        ensures key { IfOk result (λ n. length n.value.key ≡ key) }
         ensures value { IfOk result (λ n. length n.value.value.items ≡ value) }
         ensures alone { IfOk result (λ n. IsAlone n.value) }
     {
         let node = Node {
-            key: zeros(alloc, key)?,
             value: zeros(alloc, value)?,
-            height: 1,
+            key: Key::blank(alloc, key)?,
             left: Tree::Leaf,
             right: Tree::Leaf,
+            height: 1,
         };
         Ok(Box::new(alloc, node)?)
     }

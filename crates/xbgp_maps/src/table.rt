@@ -9,6 +9,7 @@ ghost use Rattle.xbgp_maps.specs.Mappings.{key_cmp, value_in, put_in, taken_from
 ghost use Rattle.xbgp_maps.specs.Tables.{IsBlank};
 ghost use Rattle.xbgp_maps.specs.Trees.{IsAlone};
 
+use crate::key::head_of;
 use crate::node::{Node, Tree};
 use crate::shape::MapShape;
 use crate::tree::{copy_over, find, first, first_after, insert, overwrite, remove, replace};
@@ -55,14 +56,14 @@ fn blanks(alloc: Global, shape: MapShape) -> Result<Vec<Box<Node>>, AllocError>
 
 // The node with a key and a value of its own widths.
 fn filled(mut node: Box<Node>, key: &[u8], value: &[u8]) -> Box<Node>
-    requires key { length node.value.key.items ≡ length key.now }
+    requires key { length node.value.key ≡ length key.now }
     requires value { length node.value.value.items ≡ length value.now }
     requires alone { IsAlone node.value }
-    ensures key { result.value.key.items ≡ key.now }
+    ensures key { result.value.key ≡ key.now }
     ensures value { result.value.value.items ≡ value.now }
     ensures alone { IsAlone result.value }
 {
-    copy_over(&mut node.key, key);
+    node.key.set(key);
     copy_over(&mut node.value, value);
     node
 }
@@ -99,7 +100,7 @@ impl Table {
         ensures width { IfSome result (λ v. length v.now ≡ self.now.shape.value) }
         ensures kept { IsMapping self.now }
     {
-        find(&self.root, key)
+        find(&self.root, head_of(key), key)
     }
 
     /// Whether there is no room for a new key.
@@ -123,7 +124,7 @@ impl Table {
         ensures there { result ≡ is_some (value_in self.old key.now) }
         ensures after { self.new ≡ when_done result (put_in self.old key.now value.now) self.old }
     {
-        overwrite(&mut self.root, key, value)
+        overwrite(&mut self.root, head_of(key), key, value)
     }
 
     /// Replaces the value at a key as `overwrite` does, and copies the value before into a buffer.
@@ -134,7 +135,7 @@ impl Table {
         ensures capacity { before.new.capacity ≡ before.old.capacity }
         ensures after { self.new ≡ when_done result (put_in self.old key.now value.now) self.old }
     {
-        replace(&mut self.root, key, value, before)
+        replace(&mut self.root, head_of(key), key, value, before)
     }
 
     /// Writes a new key.
@@ -166,7 +167,7 @@ impl Table {
     pub fn remove(&mut self, key: &[u8])
         ensures { self.new ≡ taken_from self.old key.now }
     {
-        if let Some(node) = remove(&mut self.root, key) {
+        if let Some(node) = remove(&mut self.root, head_of(key), key) {
             keep(&mut self.spare, node);
         }
     }
@@ -178,7 +179,7 @@ impl Table {
         ensures capacity { before.new.capacity ≡ before.old.capacity }
         ensures after { self.new ≡ when_done result (taken_from self.old key.now) self.old }
     {
-        match remove(&mut self.root, key) {
+        match remove(&mut self.root, head_of(key), key) {
             None => false,
             Some(node) => {
                 before.replace(&node.value);
@@ -197,7 +198,7 @@ impl Table {
     {
         match after {
             None => first(&self.root),
-            Some(key) => first_after(&self.root, key),
+            Some(key) => first_after(&self.root, head_of(key), key),
         }
     }
 }

@@ -4,6 +4,7 @@ ghost use Rattle.std.specs.Prelude.{◌≡◌, ◌+◌, ◌≤◌, ◌∷◌, �
 ghost use Rattle.std.specs.Option.{option_map};
 ghost use Rattle.xb_words.specs.Table.{entry_after, first_of, value_at, with_value, without, IsRising};
 ghost use Rattle.xbgp_maps.specs.Journals.{when_done};
+ghost use Rattle.xbgp_maps.specs.Keys.{IsHeadOf};
 ghost use Rattle.xbgp_maps.specs.Mappings.{key_cmp};
 ghost use Rattle.xbgp_maps.specs.Trees.{entries_of, entries_below, entry_of, height_of, HaveWidth, IsAlone};
 ghost use Rattle.xbgp_maps.specs.Trees.{IsBalanced, IsBalancedBelow, IsLow, IsSameOrOneMore, IsTaken};
@@ -15,21 +16,21 @@ use xb_values::Buf;
 
 /// The value at a key.
 #[tactic(auto, using(crate::proofs::TreesLemmas::look_up))]
-pub(crate) fn find<'t>(tree: &'t Tree, key: &[u8]) -> Option<&'t [u8]>
-    requires { IsRising key_cmp (entries_of tree.now) }
+pub(crate) fn find<'t>(tree: &'t Tree, head: u64, key: &[u8]) -> Option<&'t [u8]>
+    requires head { IsHeadOf key.now head }
+    requires rising { IsRising key_cmp (entries_of tree.now) }
     ensures { option_map (λ v. v.now) result ≡ value_at key_cmp (entries_of tree.now) key.now }
 {
-    match tree {
-        Tree::Leaf => None,
-        Tree::Fork(node) => {
-            let node = &**node;
-            match order(key, &node.key) {
-                Ordering::Less => find(&node.left, key),
-                Ordering::Greater => find(&node.right, key),
-                Ordering::Equal => Some(node.value.as_slice()),
-            }
+    let mut below = tree;
+    'levels: while let Tree::Fork(node) = below {
+        let node = &**node;
+        match order(head, key, &node.key) {
+            Ordering::Less => below = &node.left,
+            Ordering::Greater => below = &node.right,
+            Ordering::Equal => return Some(node.value.as_slice()),
         }
     }
+    None
 }
 
 // The key and the value of a node.
@@ -58,22 +59,26 @@ pub(crate) fn first(tree: &Tree) -> Option<(&[u8], &[u8])>
 
 /// The entry of the least key that is greater than this one.
 #[tactic(auto, using(crate::proofs::TreesLemmas::walk))]
-pub(crate) fn first_after<'t>(tree: &'t Tree, key: &[u8]) -> Option<(&'t [u8], &'t [u8])>
-    requires { IsRising key_cmp (entries_of tree.now) }
+pub(crate) fn first_after<'t>(tree: &'t Tree, head: u64, key: &[u8]) -> Option<(&'t [u8], &'t [u8])>
+    requires head { IsHeadOf key.now head }
+    requires rising { IsRising key_cmp (entries_of tree.now) }
     ensures { option_map (λ e. (e.0.now, e.1.now)) result ≡ entry_after key_cmp (entries_of tree.now) (Some key.now) }
 {
-    match tree {
-        Tree::Leaf => None,
-        Tree::Fork(node) => {
-            let node = &**node;
-            match order(key, &node.key) {
-                Ordering::Less => match first_after(&node.left, key) {
-                    None => Some(entry(node)),
-                    found => found,
-                },
-                _ => first_after(&node.right, key),
+    let mut below = tree;
+    let mut found: Option<&Node> = None;
+    'levels: while let Tree::Fork(node) = below {
+        let node = &**node;
+        match order(head, key, &node.key) {
+            Ordering::Less => {
+                found = Some(node);
+                below = &node.left;
             }
+            _ => below = &node.right,
         }
+    }
+    match found {
+        None => None,
+        Some(node) => Some(entry(node)),
     }
 }
 
@@ -87,7 +92,8 @@ pub(crate) fn copy_over(octets: &mut Vec<u8>, others: &[u8])
 
 /// Replaces the value at a key, if the key is there, which is returned.
 #[tactic(auto, using(crate::proofs::TreesLemmas::over))]
-pub(crate) fn overwrite(tree: &mut Tree, key: &[u8], value: &[u8]) -> bool
+pub(crate) fn overwrite(tree: &mut Tree, head: u64, key: &[u8], value: &[u8]) -> bool
+    requires head { IsHeadOf key.now head }
     requires rising { IsRising key_cmp (entries_of tree.old) }
     requires widths { HaveWidth (length value.now) (entries_of tree.old) }
     requires balanced { IsBalanced tree.old }
@@ -101,9 +107,9 @@ pub(crate) fn overwrite(tree: &mut Tree, key: &[u8], value: &[u8]) -> bool
         Tree::Leaf => false,
         Tree::Fork(node) => {
             let node = &mut **node;
-            match order(key, &node.key) {
-                Ordering::Less => overwrite(&mut node.left, key, value),
-                Ordering::Greater => overwrite(&mut node.right, key, value),
+            match order(head, key, &node.key) {
+                Ordering::Less => overwrite(&mut node.left, head, key, value),
+                Ordering::Greater => overwrite(&mut node.right, head, key, value),
                 Ordering::Equal => {
                     copy_over(&mut node.value, value);
                     true
@@ -115,7 +121,14 @@ pub(crate) fn overwrite(tree: &mut Tree, key: &[u8], value: &[u8]) -> bool
 
 /// Replaces the value at a key as `overwrite` does, and copies the value before into a buffer.
 #[tactic(auto, using(crate::proofs::TreesLemmas::over))]
-pub(crate) fn replace(tree: &mut Tree, key: &[u8], value: &[u8], before: &mut Buf) -> bool
+pub(crate) fn replace(
+    tree: &mut Tree,
+    head: u64,
+    key: &[u8],
+    value: &[u8],
+    before: &mut Buf,
+) -> bool
+    requires head { IsHeadOf key.now head }
     requires rising { IsRising key_cmp (entries_of tree.old) }
     requires widths { HaveWidth (length value.now) (entries_of tree.old) }
     requires room { length value.now ≤ before.old.capacity }
@@ -131,9 +144,9 @@ pub(crate) fn replace(tree: &mut Tree, key: &[u8], value: &[u8], before: &mut Bu
         Tree::Leaf => false,
         Tree::Fork(node) => {
             let node = &mut **node;
-            match order(key, &node.key) {
-                Ordering::Less => replace(&mut node.left, key, value, before),
-                Ordering::Greater => replace(&mut node.right, key, value, before),
+            match order(head, key, &node.key) {
+                Ordering::Less => replace(&mut node.left, head, key, value, before),
+                Ordering::Greater => replace(&mut node.right, head, key, value, before),
                 Ordering::Equal => {
                     before.replace(&node.value);
                     copy_over(&mut node.value, value);
@@ -149,11 +162,11 @@ pub(crate) fn replace(tree: &mut Tree, key: &[u8], value: &[u8], before: &mut Bu
 fn with_node(tree: Tree, new: Box<Node>) -> Tree
     requires rising { IsRising key_cmp (entries_of tree) }
     requires alone { IsAlone new.value }
-    requires absent { value_at key_cmp (entries_of tree) new.value.key.items ≡ None }
+    requires absent { value_at key_cmp (entries_of tree) new.value.key ≡ None }
     requires balanced { IsBalanced tree }
     requires low { IsLow (height_of tree) }
     ensures entries { entries_of result
-        ≡ with_value key_cmp (entries_of tree) new.value.key.items new.value.value.items }
+        ≡ with_value key_cmp (entries_of tree) new.value.key new.value.value.items }
     ensures balanced { IsBalanced result }
     ensures height { IsSameOrOneMore (height_of tree) (height_of result) }
 {
@@ -161,7 +174,7 @@ fn with_node(tree: Tree, new: Box<Node>) -> Tree
         // the node still has the height it had before it was removed
         Tree::Leaf => Tree::Fork(balanced(new)),
         Tree::Fork(mut node) => {
-            match order(&new.key, &node.key) {
+            match new.key.order(&node.key) {
                 Ordering::Less => {
                     node.left = with_node(node.left.take(), new);
                     Tree::Fork(balanced(node))
@@ -179,11 +192,11 @@ fn with_node(tree: Tree, new: Box<Node>) -> Tree
 pub(crate) fn insert(tree: &mut Tree, new: Box<Node>)
     requires rising { IsRising key_cmp (entries_of tree.old) }
     requires alone { IsAlone new.value }
-    requires absent { value_at key_cmp (entries_of tree.old) new.value.key.items ≡ None }
+    requires absent { value_at key_cmp (entries_of tree.old) new.value.key ≡ None }
     requires balanced { IsBalanced tree.old }
     requires low { IsLow (height_of tree.old) }
     ensures entries { entries_of tree.new
-        ≡ with_value key_cmp (entries_of tree.old) new.value.key.items new.value.value.items }
+        ≡ with_value key_cmp (entries_of tree.old) new.value.key new.value.value.items }
     ensures balanced { IsBalanced tree.new }
 {
     *tree = with_node(tree.take(), new);
@@ -235,7 +248,8 @@ fn joined(left: Tree, right: Tree) -> Tree
 
 // The tree without a key, and the node that had it.
 #[tactic(auto, using(crate::proofs::TreesLemmas::removal))]
-fn without_node(tree: Tree, key: &[u8]) -> (Tree, Option<Box<Node>>)
+fn without_node(tree: Tree, head: u64, key: &[u8]) -> (Tree, Option<Box<Node>>)
+    requires head { IsHeadOf key.now head }
     requires rising { IsRising key_cmp (entries_of tree) }
     requires balanced { IsBalanced tree }
     requires low { IsLow (height_of tree) }
@@ -246,14 +260,14 @@ fn without_node(tree: Tree, key: &[u8]) -> (Tree, Option<Box<Node>>)
 {
     match tree {
         Tree::Leaf => (Tree::Leaf, None),
-        Tree::Fork(mut node) => match order(key, &node.key) {
+        Tree::Fork(mut node) => match order(head, key, &node.key) {
             Ordering::Less => {
-                let (rest, taken) = without_node(node.left.take(), key);
+                let (rest, taken) = without_node(node.left.take(), head, key);
                 node.left = rest;
                 (Tree::Fork(balanced(node)), taken)
             }
             Ordering::Greater => {
-                let (rest, taken) = without_node(node.right.take(), key);
+                let (rest, taken) = without_node(node.right.take(), head, key);
                 node.right = rest;
                 (Tree::Fork(balanced(node)), taken)
             }
@@ -267,7 +281,8 @@ fn without_node(tree: Tree, key: &[u8]) -> (Tree, Option<Box<Node>>)
 }
 
 /// Removes the node at a key and returns it, alone, if there is one.
-pub(crate) fn remove(tree: &mut Tree, key: &[u8]) -> Option<Box<Node>>
+pub(crate) fn remove(tree: &mut Tree, head: u64, key: &[u8]) -> Option<Box<Node>>
+    requires head { IsHeadOf key.now head }
     requires rising { IsRising key_cmp (entries_of tree.old) }
     requires balanced { IsBalanced tree.old }
     requires low { IsLow (height_of tree.old) }
@@ -275,7 +290,7 @@ pub(crate) fn remove(tree: &mut Tree, key: &[u8]) -> Option<Box<Node>>
     ensures balanced { IsBalanced tree.new }
     ensures taken { IsTaken (entries_of tree.old) key.now (option_map (λ n. n.value) result) }
 {
-    let (rest, taken) = without_node(tree.take(), key);
+    let (rest, taken) = without_node(tree.take(), head, key);
     *tree = rest;
     taken
 }
