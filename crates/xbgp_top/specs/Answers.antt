@@ -29,6 +29,9 @@ use Rattle.xb_domain.specs.declared.output.Packing.TheVariants.{Sorted}
 use Rattle.spk_model.specs.declared.host.Setup.{Setup}
 use Rattle.spk_model.specs.Playing.{Replayed, replayed}
 use Rattle.spk_model.specs.Reports.{bad_log_line, end_line}
+use Rattle.xbgp_top.specs.Summaries.{count_line, work_text}
+use Rattle.xbgp_top.specs.declared.command.HostName.{HostName}
+use Rattle.xbgp_top.specs.declared.command.HostName.TheVariants.{Listed}
 use Rattle.xbgp_top.specs.declared.input.TheConstants.{INPUT_LIMIT}
 use Rattle.xbgp_top.specs.declared.exec.TheConstants.{FUEL}
 use Rattle.xbgp_top.specs.declared.command.Job.{Job}
@@ -38,7 +41,7 @@ use Rattle.xbgp_top.specs.declared.status.File.TheVariants as inputs
 use Rattle.xbgp_top.specs.declared.status.Status.{Status}
 use Rattle.xbgp_top.specs.declared.status.Status.TheVariants.{Done, Usage, ReadFault, WriteFault, OutOfMemory, TooLong}
 use Rattle.xbgp_top.specs.declared.status.Status.TheVariants.{BadConfig, BadManifest, BadLog, BadStream, BadCode}
-use Rattle.xbgp_top.specs.Commands.{Command, on_file, check, replay, command_of}
+use Rattle.xbgp_top.specs.Commands.{Command, on_file, check, replay, work, command_of}
 use Rattle.xbgp_top.specs.Statuses.{played_status}
 use Rattle.xbgp_top.specs.Words.{file_word, kind_word, load_word, part_word}
 
@@ -176,10 +179,6 @@ job_outcome Heard octets = heard_outcome octets
 job_outcome (Judge wide) octets = judge_outcome (width_of wide) octets
 job_outcome Exec octets = exec_outcome octets
 
--- a word and a count
-abbrev pub count_line : List ℕ → ℕ → List ℕ
-count_line word n = line (word ∷ decimal n ∷ [])
-
 -- what a configuration and a manifest have
 abbrev pub counts : Config → Manifest → List ℕ
 counts config manifest =
@@ -221,11 +220,16 @@ abbrev pub replay_answer : Packing → Outcome Setup → List ℕ → Files → 
 replay_answer rule (Ok setup) log files = replay_done (replayed rule setup log files)
 replay_answer rule (Err status) log files = ended (Err status)
 
+-- how a speaker packs
+abbrev pub rule_of : HostName → Packing
+rule_of Listed = Sorted
+
 -- what a command comes to, from the files that are held
 unfoldable pub command_answer : Command → Files → Answer
 command_answer (on_file job name) files = ended (file_outcome job name files)
 command_answer (check config manifest) files = ended (check_outcome config manifest files)
 command_answer (replay config manifest log) files = replay_answer Sorted (setup_input config manifest files) log files
+command_answer (work number count host) files = ended (Ok (work_text (rule_of host) number count))
 
 -- the answer to words, from the files that are held; words that are no command are bad usage
 unfoldable pub answer : List (List ℕ) → Files → Answer

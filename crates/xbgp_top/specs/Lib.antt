@@ -1,6 +1,7 @@
 pub mod Words
 pub mod Statuses
 pub mod Commands
+pub mod Summaries
 pub mod Answers
 pub mod Inputs
 pub mod Outputs
