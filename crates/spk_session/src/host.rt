@@ -33,6 +33,7 @@ pub struct Sessions<R: Routes> {
 impl<R: Routes> Sessions<R> {
     /// The half that keeps routes, as contracts of the host see it.
     pub fn routes(&self) -> &R
+        ensures value { result.now ≡ self.now.routes }
         ensures setup { R.built_from result.now ≡ ⟦<Sessions<R> as Host>⟧.built_from self.now }
         ensures routing { R.routing result.now ≡ (⟦<Sessions<R> as Host>⟧.speaker self.now).routing }
     {

@@ -20,15 +20,16 @@ fn copy_attr<R: RouteView>(view: &R, code: u8, dst: u64, room: u64, memory: &mut
     ensures memory { memory.new ≡ (copied_attr memory.old dst room (attribute_at (R.route view.now) code)).1 }
     ensures window { memory.new.window ≡ memory.old.window }
 {
-    let Some((_, len)) = view.flags_len(code) else {
+    let Some(held) = view.attribute(code) else {
         return MINUS_1;
     };
-    let len = len as u64;
+    let value = held.value();
+    let len = value.len() as u64;
     if len > room {
         return MINUS_2;
     }
     bpf_mem::laws::writable_front();
-    let _ = view.copy(code, memory.octets_mut(dst, len));
+    memory.octets_mut(dst, len).copy_from_slice(value);
     len
 }
 

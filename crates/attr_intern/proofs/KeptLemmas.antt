@@ -1,0 +1,286 @@
+-- A pool's records beside their ids by section: what each change keeps, and what callers know of the records.
+use Rattle.std.proofs.Common.{◌≡◌, ◌≢◌, ◌⊎◌, ℕ, ◌≤◌, List, [], get_or, Option, Some, None, option_map, cond, inl, inr}
+use Rattle.std.proofs.Common.{refl, sym, ap, ◌∙◌, subst, arith, lit≤}
+use Rattle.std.specs.Ordering.{is_eq}
+use Rattle.std.specs.declared.cmp.Ordering.TheVariants.{Equal}
+use Rattle.std.specs.List.Sorted.{IsStrictlySortedBy}
+use Rattle.std.specs.Map.{keys_of}
+use Rattle.std.proofs.lemmas.Bool.{cases_eq}
+use Rattle.std.proofs.lemmas.Cmp.{nat_list_cmp_total, tied_itself}
+use Rattle.std.proofs.lemmas.Map.Lookups.{exact_bytes}
+use Rattle.slab.specs.Slab.{Slab, get, entries}
+use Rattle.xb_words.specs.Table.{value_at, with_value, without}
+use Rattle.xb_words.proofs.TableLemmas.{IsRising-with_value, IsRising-without, value_at-with_value}
+use Rattle.bgp_attr.specs.Routes.{Route, canon, route_of, IsRoute}
+use Rattle.xbgp_view.specs.Sections.{IsCanonical}
+use Rattle.xbgp_view.proofs.ReadingLemmas.{route_of-canon}
+use Rattle.attr_intern.specs.Kept.{section_cmp, SectionIds, AreIndexed}
+use Rattle.attr_intern.specs.Pools.{Owned, most_owners, one_more, record_at, route_at, ArePooled}
+use Rattle.attr_intern.proofs.EntriesLemmas.{IsRising-entries, value_at-entries}
+use Rattle.attr_intern.proofs.LookupLemmas.{by_ordering, is_eq-false, value_at-with_value-other, value_at-without}
+
+-- each key but one keeps what it had
+abbrev pub KeepsOthers : Slab Owned → Slab Owned → ℕ → Type 0
+KeepsOthers old new key = (other : ℕ) → other ≢ key → get new other ≡ get old other
+
+-- the canonical section of a record, if it lives
+abbrev section_at : Slab Owned → ℕ → Option (List ℕ)
+section_at slab id = option_map (λ o. canon o.route) (get slab id)
+
+-- what holds of the record at a key, and held of all others, holds of all
+after_write : (P : ℕ → Owned → Type 0) (old new : Slab Owned) (key : ℕ) (w : Owned) → get new key ≡ Some w
+    → KeepsOthers old new key → P key w → ((id : ℕ) (o : Owned) → get old id ≡ Some o → P id o)
+    → (id : ℕ) (o : Owned) → get new id ≡ Some o → P id o
+after_write P old new key w here others is was id o found = elim (cases_eq id key) [
+  | inl same ↦
+      let one : Some w ≡ Some o = sym here ∙ ap (get new) (sym same) ∙ found in
+      let value : w ≡ o = cc one in
+      subst (λ (k : ℕ). P k o) (sym same) (subst (P key) value is)
+  | inr apart ↦ was id o (sym (others id apart) ∙ found)
+]
+
+-- the same after a removal
+after_removal : (P : ℕ → Owned → Type 0) (old new : Slab Owned) (key : ℕ) → get new key ≡ None
+    → KeepsOthers old new key
+    → ((id : ℕ) (o : Owned) → id ≢ key → get old id ≡ Some o → P id o)
+    → (id : ℕ) (o : Owned) → get new id ≡ Some o → P id o
+after_removal P old new key gone others was id o found = elim (cases_eq id key) [
+  | inl same ↦ let none : get new id ≡ None = ap (get new) same ∙ gone in absurd (cc (none, found))
+  | inr apart ↦ was id o apart (sym (others id apart) ∙ found)
+]
+
+-- sections that tie are one
+tells : (a b : List ℕ) → section_cmp a b ≡ Equal → a ≡ b
+tells a b tie = exact_bytes a b tie
+
+ties : (a b : List ℕ) → (a ≡ b) ⊎ (section_cmp a b ≢ Equal)
+ties a b = by_ordering (section_cmp a b)
+    (λ l. inr (λ tie. absurd (cc (l, tie))))
+    (λ t. inl (tells a b t))
+    (λ g. inr (λ tie. absurd (cc (g, tie))))
+
+-- another number of owners
+pub AreIndexed-counted : (old new : Slab Owned) (ids : SectionIds) (key n : ℕ) (o : Owned) → get old key ≡ Some o
+    → get new key ≡ Some (record o { owners = n }) → KeepsOthers old new key → 1 ≤ n → n ≤ most_owners
+    → AreIndexed old ids → AreIndexed new ids
+AreIndexed-counted old new ids key n o was here others some few is =
+    let w : Owned = record o { owners = n } in record {
+      rising = is.rising;
+      routes = after_write (λ _ o. IsRoute o.route) old new key w here others (is.routes key o was) is.routes;
+      owned = after_write (λ _ o. 1 ≤ o.owners) old new key w here others some is.owned;
+      counted = after_write (λ _ o. o.owners ≤ most_owners) old new key w here others few is.counted;
+      listed =
+          after_write (λ id o. value_at section_cmp ids (canon o.route) ≡ Some id) old new key w here others
+          (is.listed key o was) is.listed;
+      living = λ section id found. meant id ∙ is.living section id found;
+    }
+  where
+    meant : (id : ℕ) → section_at new id ≡ section_at old id
+    meant id = elim (cases_eq id key) [
+      | inl same ↦
+          ap (section_at new) same ∙ ap (option_map (λ o. canon o.route)) here
+          ∙ sym (ap (option_map (λ o. canon o.route)) was) ∙ ap (section_at old) (sym same)
+      | inr apart ↦ ap (option_map (λ o. canon o.route)) (others id apart)
+    ]
+
+-- one owner more
+pub AreIndexed-shared : (old new : Slab Owned) (ids : SectionIds) (key : ℕ) (o : Owned) → get old key ≡ Some o
+    → get new key ≡ Some (record o { owners = one_more o.owners }) → KeepsOthers old new key → AreIndexed old ids
+    → AreIndexed new ids
+AreIndexed-shared old new ids key o was here others is =
+    let some : 1 ≤ one_more o.owners = omega arith in
+    let few : one_more o.owners ≤ most_owners = omega arith in
+    AreIndexed-counted old new ids key (one_more o.owners) o was here others some few is
+
+-- a new record
+pub AreIndexed-added : (old new : Slab Owned) (ids added : SectionIds) (key : ℕ) (section : List ℕ) (route : Route)
+    → get old key ≡ None → get new key ≡ Some (record { route = route; owners = 1 }) → KeepsOthers old new key
+    → IsCanonical section → route_of section ≡ route → None ≡ value_at section_cmp ids section
+    → added ≡ with_value section_cmp ids section key → AreIndexed old ids → AreIndexed new added
+AreIndexed-added old new ids added key section route vacant here others canonical means free more is =
+    let w : Owned = record { route = route; owners = 1 } in
+    let whole : IsRoute route = subst IsRoute means canonical.route in
+    let spelled : canon route ≡ section = ap canon (sym means) ∙ canonical.octets in
+    let is_added : value_at section_cmp added section ≡ Some key =
+    ap (λ m. value_at section_cmp m section) more
+    ∙ value_at-with_value section_cmp nat_list_cmp_total ids section key in
+    record {
+      rising = subst (λ m. IsStrictlySortedBy section_cmp (keys_of m)) (sym more)
+          (IsRising-with_value section_cmp nat_list_cmp_total ids section key is.rising);
+      routes = after_write (λ _ o. IsRoute o.route) old new key w here others whole is.routes;
+      owned = after_write (λ _ o. 1 ≤ o.owners) old new key w here others (omega arith) is.owned;
+      counted = after_write (λ _ o. o.owners ≤ most_owners) old new key w here others (lit≤ tt) is.counted;
+      listed =
+          after_write (λ id o. value_at section_cmp added (canon o.route) ≡ Some id) old new key w here others
+          (ap (value_at section_cmp added) spelled ∙ is_added)
+          (λ id o found. still id o (is.listed id o found));
+      living = λ s id found. lives s id found (spelled, is_added);
+    }
+  where
+    other_section : (s : List ℕ) → section_cmp s section ≢ Equal
+        → value_at section_cmp added s ≡ value_at section_cmp ids s
+    other_section s apart =
+        ap (λ m. value_at section_cmp m s) more
+        ∙ value_at-with_value-other section_cmp nat_list_cmp_total ids section key s apart
+
+    still : (id : ℕ) (o : Owned) → value_at section_cmp ids (canon o.route) ≡ Some id
+        → value_at section_cmp added (canon o.route) ≡ Some id
+    still id o listed =
+        other_section (canon o.route)
+        (λ tie.
+        let taken : value_at section_cmp ids section ≡ Some id =
+        ap (value_at section_cmp ids) (sym (tells (canon o.route) section tie)) ∙ listed in
+        absurd (cc (free, taken)))
+        ∙ listed
+
+    lives : (s : List ℕ) (id : ℕ) → value_at section_cmp added s ≡ Some id
+        → (canon route ≡ section) × (value_at section_cmp added section ≡ Some key) → section_at new id ≡ Some s
+    lives s id found facts = elim (ties s section) [
+      | inl same ↦
+          let one : Some id ≡ Some key = sym found ∙ ap (value_at section_cmp added) same ∙ facts.1 in
+          let at : id ≡ key = cc one in
+          ap (section_at new) at ∙ ap (option_map (λ o. canon o.route)) here
+          ∙ ap (λ s. Some s) (facts.0 ∙ sym same)
+      | inr apart ↦
+          let old_one = is.living s id (sym (other_section s apart) ∙ found) in
+          let at : id ≢ key = λ same.
+          let none : section_at old id ≡ None =
+          ap (section_at old) same ∙ ap (option_map (λ o. canon o.route)) vacant in
+          absurd (cc (none, old_one)) in
+          ap (option_map (λ o. canon o.route)) (others id at) ∙ old_one
+    ]
+
+-- a record is gone
+pub AreIndexed-removed : (old new : Slab Owned) (ids left : SectionIds) (key : ℕ) (o : Owned) → get old key ≡ Some o
+    → get new key ≡ None → KeepsOthers old new key → left ≡ without section_cmp ids (canon o.route)
+    → AreIndexed old ids → AreIndexed new left
+AreIndexed-removed old new ids left key o was gone others fewer is = record {
+  rising = subst (λ m. IsStrictlySortedBy section_cmp (keys_of m)) (sym fewer)
+      (IsRising-without section_cmp nat_list_cmp_total ids section is.rising);
+  routes = after_removal (λ _ o. IsRoute o.route) old new key gone others (λ id o _ found. is.routes id o found);
+  owned = after_removal (λ _ o. 1 ≤ o.owners) old new key gone others (λ id o _ found. is.owned id o found);
+  counted =
+      after_removal (λ _ o. o.owners ≤ most_owners) old new key gone others (λ id o _ found. is.counted id o found);
+  listed =
+      after_removal (λ id o. value_at section_cmp left (canon o.route) ≡ Some id) old new key gone others
+      (λ id o apart found. still id o apart (is.listed id o found));
+  living = lives;
+}
+  where
+    section : List ℕ
+    section = canon o.route
+
+    there : value_at section_cmp ids section ≡ Some key
+    there = is.listed key o was
+
+    found_left : (s : List ℕ)
+        → value_at section_cmp left s ≡ cond (is_eq (section_cmp section s)) None (value_at section_cmp ids s)
+    found_left s =
+        ap (λ m. value_at section_cmp m s) fewer
+        ∙ value_at-without section_cmp nat_list_cmp_total ids section s is.rising
+
+    left_other : (s : List ℕ) → section_cmp section s ≢ Equal
+        → value_at section_cmp left s ≡ value_at section_cmp ids s
+    left_other s apart =
+        found_left s
+        ∙ ap (λ b. cond b None (value_at section_cmp ids s)) (is_eq-false (section_cmp section s) apart)
+
+    still : (id : ℕ) (w : Owned) → id ≢ key → value_at section_cmp ids (canon w.route) ≡ Some id
+        → value_at section_cmp left (canon w.route) ≡ Some id
+    still id w apart listed =
+        left_other (canon w.route)
+        (λ tie.
+        let same = tells section (canon w.route) tie in
+        let one : Some key ≡ Some id = sym there ∙ ap (value_at section_cmp ids) same ∙ listed in
+        let at : key ≡ id = cc one in
+        absurd (apart (sym at)))
+        ∙ listed
+
+    lives : (s : List ℕ) (id : ℕ) → value_at section_cmp left s ≡ Some id → section_at new id ≡ Some s
+    lives s id found = elim (ties section s) [
+      | inl same ↦
+          let tie : section_cmp section s ≡ Equal =
+          ap (section_cmp section) (sym same) ∙ tied_itself nat_list_cmp_total section in
+          let none : value_at section_cmp left s ≡ None =
+          found_left s ∙ ap (λ r. cond (is_eq r) None (value_at section_cmp ids s)) tie in
+          absurd (cc (none, found))
+      | inr apart ↦
+          let old_one = is.living s id (sym (left_other s apart) ∙ found) in
+          let at : id ≢ key = λ same_id.
+          let one : Some s ≡ Some section =
+          sym old_one ∙ ap (section_at old) same_id ∙ ap (option_map (λ o. canon o.route)) was in
+          let same : s ≡ section = cc one in
+          apart (ap (section_cmp section) same ∙ tied_itself nat_list_cmp_total section) in
+          ap (option_map (λ o. canon o.route)) (others id at) ∙ old_one
+    ]
+
+-- a slab in which each key finds the same
+pub AreIndexed-same : (old new : Slab Owned) (ids : SectionIds) → ((key : ℕ) → get new key ≡ get old key)
+    → AreIndexed old ids → AreIndexed new ids
+AreIndexed-same old new ids same is = record {
+  rising = is.rising;
+  routes = λ id o found. is.routes id o (sym (same id) ∙ found);
+  owned = λ id o found. is.owned id o (sym (same id) ∙ found);
+  counted = λ id o found. is.counted id o (sym (same id) ∙ found);
+  listed = λ id o found. is.listed id o (sym (same id) ∙ found);
+  living = λ s id found. ap (option_map (λ o. canon o.route)) (same id) ∙ is.living s id found;
+}
+
+-- without records
+pub AreIndexed-empty : (slab : Slab Owned) → slab.slots ≡ [] → AreIndexed slab []
+unfolding IsStrictlySortedBy
+AreIndexed-empty slab empty = record {
+  rising = tt;
+  routes = λ id o found. absurd (cc (none id, found));
+  owned = λ id o found. absurd (cc (none id, found));
+  counted = λ id o found. absurd (cc (none id, found));
+  listed = λ id o found. absurd (cc (none id, found));
+  living = λ s id found. absurd (cc found);
+}
+  where
+    none : (id : ℕ) → get slab id ≡ None
+    none id = ap (λ slots. get_or slots id None) empty
+
+some_of : {A B : Type 0} (f : A → B) (x : Option A) (y : B) → option_map f x ≡ Some y
+    → (a : A) × (x ≡ Some a) × (f a ≡ y)
+some_of f None y e = absurd (cc e)
+some_of f (Some a) y e = (a, refl, cc e)
+
+-- the record to whose section an id belongs means the route of the section
+pub record IsMeant (slab : Slab Owned) (key : ℕ) (route : Route) : Type 0 where
+  pub shared : Owned
+  pub there : get slab key ≡ Some shared
+  pub means : shared.route ≡ route
+
+pub IsMeant-found : (slab : Slab Owned) (ids : SectionIds) (section : List ℕ) (key : ℕ) (route : Route)
+    → AreIndexed slab ids → route_of section ≡ route → Some key ≡ value_at section_cmp ids section
+    → IsMeant slab key route
+IsMeant-found slab ids section key route is means found =
+    let some = some_of (λ (o : Owned). canon o.route) (get slab key) section (is.living section key (sym found)) in
+    record {
+      shared = some.0;
+      there = some.1;
+      means = sym (route_of-canon some.0.route (is.routes key some.0 some.1)) ∙ ap route_of some.2 ∙ means;
+    }
+
+-- a route that lives is listed by its section
+pub listed_by_route : (slab : Slab Owned) (ids : SectionIds) (id : ℕ) (route : Route) → AreIndexed slab ids
+    → route_at (entries slab) id ≡ Some route → value_at section_cmp ids (canon route) ≡ Some id
+listed_by_route slab ids id route is lives =
+    let some = some_of (λ (o : Owned). o.route) (record_at (entries slab) id) route lives in
+    ap (λ r. value_at section_cmp ids (canon r)) (sym some.2)
+    ∙ is.listed id some.0 (sym (value_at-entries slab id) ∙ some.1)
+
+-- what callers know of the records
+pub ArePooled-entries : (slab : Slab Owned) (ids : SectionIds) → AreIndexed slab ids → ArePooled (entries slab)
+ArePooled-entries slab ids is = record {
+  rising = IsRising-entries slab;
+  routes = λ id o found. is.routes id o (sym (value_at-entries slab id) ∙ found);
+  owned = λ id o found. is.owned id o (sym (value_at-entries slab id) ∙ found);
+  counted = λ id o found. is.counted id o (sym (value_at-entries slab id) ∙ found);
+  distinct = λ a b route at_a at_b.
+      let first = listed_by_route slab ids a route is at_a in
+      let second = listed_by_route slab ids b route is at_b in
+      let one : Some a ≡ Some b = sym first ∙ second in
+      cc one;
+}

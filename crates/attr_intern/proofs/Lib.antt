@@ -1,0 +1,5 @@
+pub mod LookupLemmas
+pub mod EntriesLemmas
+pub mod FieldsLemmas
+pub mod KeptLemmas
+pub mod PoolLemmas

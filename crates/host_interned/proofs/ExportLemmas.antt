@@ -1,0 +1,160 @@
+-- What an export leaves.
+use Rattle.std.proofs.Common.{◌≡◌, ◌≤◌, ◌<◌, ◌-◌, refl, sym, ◌∙◌, ap, subst, ℕ, Bool, true, false, List, ◌++◌}
+use Rattle.std.proofs.Common.{length, arith, Option, Some, None}
+use Rattle.std.specs.Prelude.{slice_index_or, if◌then◌else◌}
+use Rattle.std.specs.List.{slice_set}
+use Rattle.std.proofs.lemmas.List.{get_or_default}
+use Rattle.xb_words.specs.Table.{value_at, with_value, without}
+use Rattle.xb_words.proofs.TableLemmas.{value_at-some}
+use Rattle.xb_values.specs.Prefixes.{Prefix, Sections, prefix_cmp}
+use Rattle.xb_domain.specs.declared.side.Side.{Side}
+use Rattle.bgp_attr.specs.Routes.{Route}
+use Rattle.bgp_fsm.specs.Sessions.{Owned, start_session}
+use Rattle.xbgp_manifest.specs.Manifests.{Manifest}
+use Rattle.xbgp_points.specs.Engines.{Kept}
+use Rattle.xbgp_points.specs.Points.{Engine}
+use Rattle.spk_model.specs.Choosing.{Trace}
+use Rattle.spk_model.specs.Sources.{session_of, is_established, is_up, is_wide, side_of}
+use Rattle.spk_model.specs.Exporting.{Exported, exported}
+use Rattle.spk_model.specs.Routing.{Routed, Tables, Chosen, no_tables, with_tables, at_tables}
+use Rattle.spk_model.specs.Routing.{set_adv, export, export_best, advertise}
+use Rattle.host_interned.specs.declared.routing.Core.{Core}
+use Rattle.host_interned.specs.Ribs.{RibView, Shows, tables_in, with_adv}
+use Rattle.host_interned.specs.Meaning.{Does, IsReady, setup_of, routing_of, routed}
+use Rattle.host_interned.proofs.ShownLemmas.{changed_core, ready_with_peer, routing_shown}
+
+-- a session by its index is that of the peer's number
+pub session_at : (sessions : List Owned) (p : ℕ) (s : Owned) → 1 ≤ p → p ≤ length sessions
+    → s ≡ slice_index_or sessions (p - 1) s → s ≡ session_of sessions p
+session_at sessions p s least most is =
+    let inside : p - 1 < length sessions = omega arith in
+    is ∙ get_or_default sessions (p - 1) s (record { own = 0; session = start_session }) inside
+
+-- a best route's source is the number of a party
+pub source_within : (a : Core) (prefix : Prefix) (b : Chosen) → IsReady a
+    → value_at prefix_cmp a.rib.best prefix ≡ Some b → b.source ≤ length a.config.peers
+source_within a prefix b ready is =
+    (value_at-some prefix_cmp (λ e. e.1.source ≤ length a.config.peers) a.rib.best prefix b ready.sources is).2
+
+-- a peer that is not Established has no export
+pub not_exported : (a : Core) (sessions : List Owned) (prefix : Prefix) (p : ℕ) (s : Owned) → IsReady a
+    → length sessions ≡ length a.config.peers → 1 ≤ p → p ≤ length a.config.peers
+    → s ≡ slice_index_or sessions (p - 1) s → is_established (s.session).state ≡ false
+    → Does (λ setup t. export setup sessions prefix t p) a a
+unfolding export
+not_exported a sessions prefix p s ready all least most is down =
+    let off : is_up sessions p ≡ false =
+    ap (λ (x : Owned). is_established (x.session).state)
+    (sym (session_at sessions p s least (subst (λ (n : ℕ). p ≤ n) (sym all) most) is)) ∙ down in
+    record {
+      ready = ready;
+      setup = refl;
+      routing = λ trace.
+          ap (λ (b : Bool). (if b then export_best (setup_of a) sessions (routed trace a) p prefix
+          (value_at prefix_cmp a.rib.best prefix) else routed trace a).routing) off;
+    }
+
+abbrev pub adv_after : Sections → Prefix → Option (List ℕ) → Sections
+adv_after adv prefix None = without prefix_cmp adv prefix
+adv_after adv prefix (Some section) = with_value prefix_cmp adv prefix section
+
+adv_routing : (t : Routed) (p : ℕ) (prefix : Prefix) (o : Option (List ℕ))
+    → (set_adv t p prefix o).routing
+    ≡ with_tables t.routing p (record (at_tables t p) { adv = adv_after (at_tables t p).adv prefix o })
+adv_routing t p prefix None = refl
+adv_routing t p prefix (Some section) = refl
+
+-- the engine, the rib and the section change in an export
+abbrev pub exported_core : Core → Kept → RibView → List ℕ → Core
+exported_core a e r x = changed_core a e r a.received a.route x
+
+-- what a peer is advertised at a prefix, with other routes shown
+abbrev pub with_export : RibView → ℕ → Prefix → Option (List ℕ) → List Tables
+with_export r p prefix o = with_adv r p (adv_after (tables_in r p).adv prefix o)
+
+-- an export that ends in a change of what is advertised
+lands : (a : Core) (e : Kept) (r : RibView) (x : List ℕ) (sessions : List Owned) (prefix : Prefix) (p : ℕ)
+    (o : Option (List ℕ)) (after : Trace → Trace) → IsReady a → e.manifest ≡ a.engine.manifest
+    → e.local ≡ a.engine.local → Shows a.rib.own a.rib.best (with_export a.rib p prefix o) r
+    → ((trace : Trace) → export (setup_of a) sessions prefix (routed trace a) p
+    ≡ set_adv (record { routing = record (routing_of a) { engine = e.engine }; trace = after trace }) p prefix o)
+    → Does (λ setup t. export setup sessions prefix t p) a (exported_core a e r x)
+lands a e r x sessions prefix p o after ready manifest local shows says = record {
+  ready = ready_with_peer a e r a.received a.route x p
+      (record (tables_in a.rib p) { adv = adv_after (tables_in a.rib p).adv prefix o }) ready local shows;
+  setup = ap (λ (m : Manifest). record { config = a.config; manifest = m }) manifest;
+  routing = λ trace.
+      ap (λ (t : Routed). t.routing) (says trace)
+      ∙ adv_routing (record { routing = record (routing_of a) { engine = e.engine }; trace = after trace }) p prefix o
+      ∙ routing_shown e.engine a.rib.own a.rib.best (with_export a.rib p prefix o) r shows;
+}
+
+when_up : (a : Core) (sessions : List Owned) (prefix : Prefix) (p : ℕ) (s : Owned) (best : Option Chosen)
+    → length sessions ≡ length a.config.peers → 1 ≤ p → p ≤ length a.config.peers
+    → s ≡ slice_index_or sessions (p - 1) s → is_established (s.session).state ≡ true
+    → value_at prefix_cmp a.rib.best prefix ≡ best
+    → (trace : Trace) → export (setup_of a) sessions prefix (routed trace a) p
+    ≡ export_best (setup_of a) sessions (routed trace a) p prefix best
+unfolding export
+when_up a sessions prefix p s best all least most is up found trace =
+    let on : is_up sessions p ≡ true =
+    ap (λ (x : Owned). is_established (x.session).state)
+    (sym (session_at sessions p s least (subst (λ (n : ℕ). p ≤ n) (sym all) most) is)) ∙ up in
+    ap (λ (b : Bool). if b then export_best (setup_of a) sessions (routed trace a) p prefix
+    (value_at prefix_cmp a.rib.best prefix) else routed trace a) on
+    ∙ ap (export_best (setup_of a) sessions (routed trace a) p prefix) found
+
+-- a prefix without a best route is no longer advertised
+pub retracted : (a : Core) (r : RibView) (sessions : List Owned) (prefix : Prefix) (p : ℕ) (s : Owned)
+    → IsReady a → length sessions ≡ length a.config.peers → 1 ≤ p → p ≤ length a.config.peers
+    → s ≡ slice_index_or sessions (p - 1) s → is_established (s.session).state ≡ true
+    → value_at prefix_cmp a.rib.best prefix ≡ None → Shows a.rib.own a.rib.best (with_export a.rib p prefix None) r
+    → Does (λ setup t. export setup sessions prefix t p) a (exported_core a a.engine r a.exporter)
+retracted a r sessions prefix p s ready all least most s_is up found shows =
+    lands a a.engine r a.exporter sessions prefix p None (λ trace. trace) ready refl refl shows
+    (when_up a sessions prefix p s None all least most s_is up found)
+
+-- what a best route becomes for a peer, on what the core holds
+abbrev pub gives_for : Core → Side → Bool → Side → Prefix → Route → Exported
+gives_for a to wide from prefix route =
+    exported a.engine.manifest a.config.local a.config.local_pref a.engine.engine to wide from prefix route
+
+-- a best route is exported
+pub exports : (a : Core) (e : Kept) (r : RibView) (x : List ℕ) (sessions : List Owned) (prefix : Prefix) (p : ℕ)
+    (s w : Owned) (b : Chosen) (number : ℕ) (route : Route) (to from : Side) (wide : Bool)
+    (o : Option (List ℕ))
+    → IsReady a → length sessions ≡ length a.config.peers → 1 ≤ p → p ≤ length a.config.peers
+    → s ≡ slice_index_or sessions (p - 1) s → is_established (s.session).state ≡ true
+    → value_at prefix_cmp a.rib.best prefix ≡ Some b → number ≡ b.source → route ≡ b.route
+    → to ≡ side_of a.config sessions p → from ≡ side_of a.config sessions number
+    → w ≡ slice_index_or sessions (p - 1) w → wide ≡ (w.session).wide
+    → (gives_for a to wide from prefix route).section ≡ o
+    → e.engine ≡ (gives_for a to wide from prefix route).engine
+    → e.manifest ≡ a.engine.manifest → e.local ≡ a.engine.local
+    → Shows a.rib.own a.rib.best (with_export a.rib p prefix o) r
+    → Does (λ setup t. export setup sessions prefix t p) a (exported_core a e r x)
+exports a e r x sessions prefix p s w b number route to from wide o ready all least most s_is up found
+    number_is route_is to_is from_is w_is wide_is section engine manifest local shows =
+    let g : Exported = gives_for a to wide from prefix route in
+    let wide_at : wide ≡ is_wide sessions p =
+    wide_is ∙ ap (λ (y : Owned). (y.session).wide)
+    (session_at sessions p w least (subst (λ (n : ℕ). p ≤ n) (sym all) most) w_is) in
+    let given : gives_for a (side_of a.config sessions p) (is_wide sessions p) (side_of a.config sessions b.source) prefix
+    b.route ≡ g =
+    ap (λ (y : Side). gives_for a y (is_wide sessions p) (side_of a.config sessions b.source) prefix b.route) (sym to_is)
+    ∙ ap (λ (y : Bool). gives_for a to y (side_of a.config sessions b.source) prefix b.route) (sym wide_at)
+    ∙ ap (λ (y : Side). gives_for a to wide y prefix b.route)
+    (ap (side_of a.config sessions) (sym number_is) ∙ sym from_is)
+    ∙ ap (gives_for a to wide from prefix) (sym route_is) in
+    lands a e r x sessions prefix p o (λ trace. trace ++ g.trace) ready manifest local shows
+    (λ trace.
+    when_up a sessions prefix p s (Some b) all least most s_is up found trace
+    ∙ ap (λ (y : Exported). advertise (setup_of a) sessions (routed trace a) p prefix y) given
+    ∙ ap (λ (y : Option (List ℕ)). set_adv (record {
+      routing = record (routing_of a) { engine = g.engine };
+      trace = trace ++ g.trace;
+    }) p prefix y) section
+    ∙ ap (λ (y : Engine). set_adv (record {
+      routing = record (routing_of a) { engine = y };
+      trace = trace ++ g.trace;
+    }) p prefix o) (sym engine))

@@ -1,0 +1,13 @@
+mod MappedLemmas
+mod OwnerLemmas
+mod RibLemmas
+mod ShownLemmas
+mod FollowingLemmas
+mod ExportLemmas
+mod DecideLemmas
+mod UpdateLemmas
+mod SoundLemmas
+mod JudgeLemmas
+mod WalkLemmas
+mod StartLemmas
+mod InternedLemmas

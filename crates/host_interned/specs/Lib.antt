@@ -1,0 +1,4 @@
+pub mod Ribs
+pub mod Meaning
+pub mod Deciding
+pub mod Starting

@@ -1,0 +1,59 @@
+-- The routes that a core keeps, and what it is for a function of it to follow a definition (this project's own).
+use Rattle.std.specs.Prelude.{◌≡◌, ◌≤◌, length, List, Result, Ok, Err, Some, map}
+use Rattle.std.specs.declared.alloc.AllocError.{AllocError}
+use Rattle.std.specs.List.{AllByRecursion}
+use Rattle.xb_values.specs.Prefixes.{Prefix}
+use Rattle.xbgp_config.specs.declared.limits.TheConstants.{MAX_PEERS}
+use Rattle.spk_model.specs.declared.host.Setup.{Setup}
+use Rattle.spk_model.specs.Choosing.{Trace}
+use Rattle.spk_model.specs.Sources.{local_route}
+use Rattle.spk_model.specs.Routing.{Routing, Routed}
+use Rattle.attr_intern.specs.Pools.{Records}
+use Rattle.host_interned.specs.declared.chosen.Chosen.{Chosen}
+use Rattle.host_interned.specs.declared.routing.Core.{Core}
+
+-- the setup that a core was made of
+abbrev pub setup_of : Core → Setup
+setup_of c = record { config = c.config; manifest = (c.engine).manifest }
+
+-- its routes
+abbrev pub routing_of : Core → Routing
+routing_of c = record { best = (c.rib).best; engine = (c.engine).engine; tables = (c.rib).tables }
+
+-- its routes within an event, whatever chains ran before
+abbrev pub routed : Trace → Core → Routed
+routed trace c = record { routing = routing_of c; trace = trace }
+
+-- what every core keeps
+pub record IsReady (c : Core) : Type 0 where
+  pub few : length (c.config).peers ≤ MAX_PEERS
+  pub local : (c.engine).local ≡ (c.config).local
+  pub own : (c.rib).own ≡ local_route c.config
+  pub count : length (c.rib).tables ≡ length (c.config).peers
+  pub sources : AllByRecursion (λ e. (e.1).source ≤ length (c.config).peers) (c.rib).best
+
+-- the core went on as a definition says, whatever chains ran before
+pub record Does (step : Setup → Routed → Routed) (old new : Core) : Type 0 where
+  pub ready : IsReady new
+  pub setup : setup_of new ≡ setup_of old
+  pub routing : (trace : Trace) → (step (setup_of old) (routed trace old)).routing ≡ routing_of new
+
+-- the core went on as a definition says; or there was no memory, and the core may be used again
+abbrev pub Goes : Result (Unit {0}) AllocError → (Setup → Routed → Routed) → Core → Core → Type 0
+Goes (Ok u) step old new = Does step old new
+Goes (Err e) step old new = IsReady new
+
+-- what contracts see of the routes' half: its setup and routes, and the ids of the best routes with the records
+pub record Seen : Type 0 where
+  pub setup : Setup
+  pub routing : Routing
+  pub chosen : List (Prefix × Chosen)
+  pub records : Records
+
+abbrev pub seen_of : Core → Seen
+seen_of c = record {
+  setup = setup_of c;
+  routing = routing_of c;
+  chosen = (c.rib).chosen;
+  records = (c.rib).records;
+}

@@ -1,0 +1,165 @@
+// The routes, without what keeps them sound: deciding, exporting and settling prefixes.
+ghost use Rattle.std.specs.Prelude.{◌≡◌, ◌≤◌, ◌+◌, [], length, fold, IfOk};
+ghost use Rattle.std.specs.Map.{keys_of};
+ghost use Rattle.bgp_fsm.specs.Sessions.{Owned};
+ghost use Rattle.spk_model.specs.Sources.{peer_numbers};
+ghost use Rattle.spk_model.specs.Routing.{decide, export, export_all, settle};
+ghost use Rattle.host_interned.specs.Meaning.{Goes, IsReady};
+
+use crate::decision::winner;
+use crate::rib::Rib;
+use bgp_fsm::Session;
+use spk_routes::{Exporter, PrefixSet, is_up, side_of};
+use std::alloc::{AllocError, Global};
+use xb_values::Prefix;
+use xbgp_config::Config;
+use xbgp_points::Engine;
+use xbgp_view::Overlay;
+
+/// The routes' half of a speaker.
+#[derive(Drop)]
+pub(crate) struct Core {
+    pub(crate) config: Config,
+    pub(crate) engine: Engine,
+    pub(crate) rib: Rib,
+    // The route of the UPDATE that is taken, and its copy for one prefix.
+    pub(crate) received: Overlay,
+    pub(crate) route: Overlay,
+    pub(crate) exporter: Exporter,
+}
+
+impl Core {
+    /// Decides a prefix.
+    pub(crate) fn decide(
+        &mut self,
+        alloc: Global,
+        sessions: &[Session],
+        prefix: Prefix,
+    ) -> Result<(), AllocError>
+        requires ready { IsReady self.old }
+        requires all { length sessions.now ≡ length self.old.config.peers }
+        ensures { Goes result (λ setup t. decide setup sessions.now t prefix) self.old self.new }
+    {
+        match winner(
+            alloc,
+            &self.config,
+            &mut self.engine,
+            &self.rib,
+            sessions,
+            prefix,
+        )? {
+            None => {
+                self.rib.unset_best(prefix);
+                Ok(())
+            }
+            Some(source) => self.rib.set_best(prefix, source),
+        }
+    }
+
+    /// Exports a prefix to a peer, if its session is Established.
+    pub(crate) fn export(
+        &mut self,
+        sessions: &[Session],
+        prefix: Prefix,
+        peer: u32,
+    ) -> Result<(), AllocError>
+        requires ready { IsReady self.old }
+        requires all { length sessions.now ≡ length self.old.config.peers }
+        requires least { 1 ≤ peer }
+        requires most { peer ≤ length self.old.config.peers }
+        ensures { Goes result (λ setup t. export setup sessions.now prefix t peer) self.old self.new }
+    {
+        let i = peer as usize - 1;
+        if !is_up(&sessions[i]) {
+            return Ok(());
+        }
+        let Some((source, best)) = self.rib.best(prefix) else {
+            self.rib.retract(peer, prefix);
+            return Ok(());
+        };
+        let to = side_of(&self.config, sessions, peer);
+        let from = side_of(&self.config, sessions, source);
+        if self.exporter.export(
+            &mut self.engine,
+            &self.config,
+            &to,
+            sessions[i].wide(),
+            &from,
+            prefix,
+            best,
+        ) {
+            self.rib.advertise(peer, prefix, self.exporter.section())
+        } else {
+            self.rib.retract(peer, prefix);
+            Ok(())
+        }
+    }
+
+    /// Decides a prefix, and exports it to each peer.
+    pub(crate) fn settle(
+        &mut self,
+        alloc: Global,
+        sessions: &[Session],
+        prefix: Prefix,
+    ) -> Result<(), AllocError>
+        requires ready { IsReady self.old }
+        requires all { length sessions.now ≡ length self.old.config.peers }
+        ensures { Goes result (λ setup t. settle setup sessions.now t prefix) self.old self.new }
+    {
+        self.decide(alloc, sessions, prefix)?;
+        'peers: for i in 0..sessions.len() {
+            self.export(sessions, prefix, i as u32 + 1)?;
+        }
+        Ok(())
+    }
+
+    /// Settles each prefix of a set, by rising order, and empties the set.
+    pub(crate) fn settle_set(
+        &mut self,
+        alloc: Global,
+        sessions: &[Session],
+        mut prefixes: PrefixSet,
+    ) -> Result<(), AllocError>
+        requires ready { IsReady self.old }
+        requires all { length sessions.now ≡ length self.old.config.peers }
+        ensures { Goes result (λ setup t. fold (settle setup sessions.now) t prefixes) self.old self.new }
+    {
+        'prefixes: while let Some(prefix) = prefixes.pop_first() {
+            self.settle(alloc, sessions, prefix)?;
+        }
+        Ok(())
+    }
+
+    /// Exports each best route to a peer.
+    pub(crate) fn export_all(
+        &mut self,
+        alloc: Global,
+        sessions: &[Session],
+        peer: u32,
+    ) -> Result<(), AllocError>
+        requires ready { IsReady self.old }
+        requires all { length sessions.now ≡ length self.old.config.peers }
+        requires least { 1 ≤ peer }
+        requires most { peer ≤ length self.old.config.peers }
+        ensures { Goes result (λ setup t. export_all setup sessions.now t peer) self.old self.new }
+    {
+        let prefixes = prefixes_of(alloc, &self.rib)?;
+        'prefixes: for prefix in &prefixes {
+            self.export(sessions, *prefix, peer)?;
+        }
+        Ok(())
+    }
+}
+
+// The prefixes that have a best route, by rising order.
+fn prefixes_of(alloc: Global, rib: &Rib) -> Result<Vec<Prefix>, AllocError>
+    ensures { IfOk result (λ v. v.items ≡ keys_of rib.now.best) }
+{
+    let mut prefixes = Vec::new(alloc);
+    let mut after = None;
+    'prefixes: while let Some(prefix) = rib.best_after(after) {
+        prefixes.push(prefix)?;
+        after = Some(prefix);
+    }
+    Ok(prefixes)
+}

@@ -1,0 +1,247 @@
+-- Groups by section after a change of one of them, and after a change of the slots.
+use Rattle.std.proofs.Common.{◌≡◌, ℕ, Bool, true, false, inl, inr, List, [], ◌∷◌, Option, Some, None, Vec, refl, sym}
+use Rattle.std.proofs.Common.{◌∙◌, ap, subst, cond, length, arith, rules}
+use Rattle.std.specs.Option.{IfSome, IsSome, option_and_then}
+use Rattle.std.specs.BTreeMap.{get_by, is_at, UpdatesBy}
+use Rattle.std.specs.BTreeSet.{BTreeSet, insert_key}
+use Rattle.std.specs.Cmp.{eq_by_cmp_equiv}
+use Rattle.std.specs.Cmp.Lexicographic.{slice_cmp}
+use Rattle.std.specs.Map.{KeepsOthers}
+use Rattle.std.specs.Ordering.{is_eq, nat_cmp}
+use Rattle.std.specs.Set.{remove_key}
+use Rattle.std.specs.Str.{bytes_eq}
+use Rattle.std.specs.declared.alloc.Global.{Global}
+use Rattle.std.specs.declared.cmp.Ordering.{Ordering}
+use Rattle.std.proofs.lemmas.Bool.{cases_Bool}
+use Rattle.std.proofs.lemmas.Cmp.{nat_list_cmp_total, tied_itself}
+use Rattle.std.proofs.lemmas.Map.Text.{is_eq-slice_cmp}
+use Rattle.std.proofs.lemmas.Slice.Eq.{bytes_eq-Decides}
+use Rattle.xb_words.specs.Table.{value_at, with_value, without, IsRising}
+use Rattle.xb_values.specs.Prefixes.{Prefix, prefix_cmp}
+use Rattle.xb_values.proofs.PrefixLemmas.{prefix_total}
+use Rattle.bgp_write.specs.Pending.{same_section}
+use Rattle.bgp_write.proofs.SetLemmas.{by_ordering}
+use Rattle.out_grouped.specs.Slots.{Slot, Slots, keys_where, taken_back, waited, waiting, waits_with, advertised, is_fresh}
+use Rattle.out_grouped.specs.Groups.{Grouping, group_at, members, AreSame, IsGrouped, Joins, Leaves}
+use Rattle.out_grouped.proofs.SlotLemmas.{keys_where-written, keys_where-removed}
+use Rattle.out_grouped.proofs.SlotLemmas.{keys_where-with_value-same, keys_where-without-same}
+
+-- how a query by a section compares to the sections of groups, and these to each other
+abbrev pub at_section : List ℕ → Vec ℕ Global → Ordering
+at_section s k = slice_cmp nat_cmp s k.items
+
+abbrev pub section_cmp : Vec ℕ Global → Vec ℕ Global → Ordering
+section_cmp a b = slice_cmp nat_cmp a.items b.items
+
+pub same_bytes : (s t : List ℕ) → bytes_eq s t ≡ true → s ≡ t
+same_bytes s t same = (bytes_eq-Decides s t).0 same
+
+other_bytes : (s t k : List ℕ) → bytes_eq s t ≡ false → bytes_eq s k ≡ true → bytes_eq t k ≡ false
+other_bytes s t k other same =
+    let eq = eq_by_cmp_equiv nat_list_cmp_total in
+    let back : bytes_eq t s ≡ bytes_eq s t =
+    sym (is_eq-slice_cmp t s) ∙ eq.symm t s ∙ is_eq-slice_cmp s t in
+    ap (bytes_eq t) (sym (same_bytes s k same)) ∙ back ∙ other
+
+apart_sections : (s t k : List ℕ) → bytes_eq s t ≡ false → is_eq (slice_cmp nat_cmp s k) ≡ true
+    → is_eq (slice_cmp nat_cmp t k) ≡ false
+apart_sections s t k other same =
+    is_eq-slice_cmp t k ∙ other_bytes s t k other (sym (is_eq-slice_cmp s k) ∙ same)
+
+-- a query after a change at a section
+get_by-updated : (old new : Grouping) (s t : List ℕ) (w : Option (BTreeSet Prefix))
+    → UpdatesBy section_cmp (at_section s) old new w
+    → get_by (at_section t) new ≡ cond (bytes_eq s t) w (get_by (at_section t) old)
+unfolding KeepsOthers
+get_by-updated old new s t w updates = elim (cases_Bool (bytes_eq s t)) [
+  | inl same ↦
+      let here = subst (λ (u : List ℕ). get_by (at_section u) new ≡ w) (same_bytes s t same) updates.1 in
+      rw same here
+  | inr other ↦
+      let eq = eq_by_cmp_equiv nat_list_cmp_total in
+      let rest = updates.3 (is_at (at_section t)) (λ x y. eq.congr t x.items y.items)
+      (λ k. apart_sections s t k.items other) in
+      rw other rest
+]
+
+-- the groups after a change of one
+pub group_at-updated : (f : List Prefix → List Prefix) (old new : Grouping) (s : List ℕ)
+    (w : Option (BTreeSet Prefix)) → UpdatesBy section_cmp (at_section s) old new w
+    → members w ≡ f (group_at old s) → (t : List ℕ)
+    → group_at new t ≡ cond (bytes_eq s t) (f (group_at old t)) (group_at old t)
+group_at-updated f old new s w updates is t =
+    ap members (get_by-updated old new s t w updates) ∙ elim (cases_Bool (bytes_eq s t)) [
+      | inl same ↦ rw same (is ∙ ap (λ u. f (group_at old u)) (same_bytes s t same))
+      | inr other ↦ rw other refl
+    ]
+
+both_same : {A : Type 0} (b : Bool) (x : A) → cond b x x ≡ x
+both_same true x = refl
+both_same false x = refl
+
+is_some_from : {A : Type 0} (o : Option A) (x : A) → o ≡ Some x → IsSome o
+is_some_from None x is = absurd (cc is)
+is_some_from (Some y) x is = search rules
+
+-- and of one that a map lends
+pub group_at-lent : (f : List Prefix → List Prefix) (old new : Grouping) (s : List ℕ) (group changed : BTreeSet Prefix)
+    → get_by (at_section s) old ≡ Some group → changed.keys ≡ f group.keys
+    → (IsSome (get_by (at_section s) old) → UpdatesBy section_cmp (at_section s) old new (Some changed)) → (t : List ℕ)
+    → group_at new t ≡ cond (bytes_eq s t) (f (group_at old t)) (group_at old t)
+group_at-lent f old new s group changed there is updates t =
+    group_at-updated f old new s (Some changed) (updates (is_some_from (get_by (at_section s) old) group there))
+    (is ∙ ap f (sym (ap members there))) t
+
+pub AreSame-lent : (old new : Grouping) (s : List ℕ) (group changed : BTreeSet Prefix)
+    → get_by (at_section s) old ≡ Some group → changed.keys ≡ group.keys
+    → (IsSome (get_by (at_section s) old) → UpdatesBy section_cmp (at_section s) old new (Some changed))
+    → AreSame old new
+AreSame-lent old new s group changed there is updates t =
+    group_at-lent (λ ks. ks) old new s group changed there is updates t ∙ both_same (bytes_eq s t) (group_at old t)
+
+no_length : {A : Type 0} (xs : List A) → length xs ≡ 0 → xs ≡ []
+no_length [] is = refl
+no_length (x ∷ xs) is = absurd (cc is)
+
+-- an empty group may go
+pub AreSame-updated : (old new : Grouping) (s : List ℕ) (group : BTreeSet Prefix)
+    → UpdatesBy section_cmp (at_section s) old new None → get_by (at_section s) old ≡ Some group
+    → length group.keys ≡ 0 → AreSame old new
+AreSame-updated old new s group updates there empty t =
+    group_at-updated (λ ks. ks) old new s None updates (sym (ap members there ∙ no_length group.keys empty)) t
+    ∙ both_same (bytes_eq s t) (group_at old t)
+
+-- whether a prefix waits with a section, by its slot
+passes_not : (o : Option Slot) (t : List ℕ) → same_section (waited o) (Some t) ≡ false
+    → IfSome o (λ r. waits_with t r ≡ false)
+passes_not None t is = tt
+passes_not (Some r) t is = is
+
+-- a prefix whose slot changes leaves the group that it was in and joins another
+pub IsGrouped-with_value : (old mid new : Grouping) (es : Slots) (p : Prefix) (s : Slot) (was now : Option (List ℕ))
+    → IsRising prefix_cmp es → IsGrouped old es → was ≡ waited (value_at prefix_cmp es p) → now ≡ waiting s
+    → Joins old mid now p → Leaves mid new was p
+    → ((t : List ℕ) → same_section now (Some t) ≡ true → same_section was (Some t) ≡ false)
+    → IsGrouped new (with_value prefix_cmp es p s)
+IsGrouped-with_value old mid new es p s was now rising grouped was_is now_is joins leaves apart t =
+    let test = waits_with t in
+    let ks = keys_where test es in
+    let first : group_at mid t ≡ cond (same_section now (Some t)) (insert_key prefix_cmp ks p) ks =
+    joins t ∙ ap (λ l. cond (same_section now (Some t)) (insert_key prefix_cmp l p) l) (grouped t) in
+    let second = leaves t ∙ ap (λ l. cond (same_section was (Some t)) (remove_key (is_at (prefix_cmp p)) l) l) first in
+    let says : waits_with t s ≡ same_section now (Some t) = ap (λ o. same_section o (Some t)) (sym now_is) in
+    second ∙ elim (cases_Bool (same_section now (Some t))) [
+      | inl here ↦
+          let not : same_section was (Some t) ≡ false = apart t here in
+          rw (here, not) (sym (keys_where-written test es p s true rising (says ∙ here)))
+      | inr away ↦ elim (cases_Bool (same_section was (Some t))) [
+        | inl before ↦ rw (away, before) (sym (keys_where-written test es p s false rising (says ∙ away)))
+        | inr never ↦
+            let old_slot = passes_not (value_at prefix_cmp es p) t
+            (ap (λ o. same_section o (Some t)) (sym was_is) ∙ never) in
+            rw (away, never) (sym (keys_where-with_value-same test es p s rising old_slot (says ∙ away)))
+      ]
+    ]
+
+left_or_stayed : (b : Bool) (p : Prefix) (ks rest : List Prefix)
+    → (b ≡ true → remove_key (is_at (prefix_cmp p)) ks ≡ rest) → (b ≡ false → ks ≡ rest)
+    → cond b (remove_key (is_at (prefix_cmp p)) ks) ks ≡ rest
+left_or_stayed true p ks rest left stayed = left refl
+left_or_stayed false p ks rest left stayed = stayed refl
+
+-- and one that is advertised no longer leaves its group
+grouped-gone : (old new : Grouping) (es : Slots) (p : Prefix) (a told : Option (List ℕ)) → IsRising prefix_cmp es
+    → value_at prefix_cmp es p ≡ Some (record { adv = a; told = told }) → IsGrouped old es
+    → Leaves old new (waiting (record { adv = a; told = told })) p
+    → IsGrouped new (taken_back es p (Some (record { adv = a; told = told })))
+grouped-gone old new es p a None rising there grouped leaves t =
+    let test = waits_with t in
+    let s : Slot = record { adv = a; told = None } in
+    let before = same_section (waiting s) (Some t) in
+    leaves t ∙ ap (λ l. cond before (remove_key (is_at (prefix_cmp p)) l) l) (grouped t)
+    ∙ left_or_stayed before p (keys_where test es) _
+    (λ _. sym (keys_where-removed test es p rising))
+    (λ away. sym (keys_where-without-same test es p rising
+    (subst (λ o. IfSome o (λ r. waits_with t r ≡ false)) (sym there) away)))
+grouped-gone old new es p a (Some u) rising there grouped leaves t =
+    let test = waits_with t in
+    let s : Slot = record { adv = a; told = Some u } in
+    let gone : Slot = record { adv = None; told = Some u } in
+    let before = same_section (waiting s) (Some t) in
+    leaves t ∙ ap (λ l. cond before (remove_key (is_at (prefix_cmp p)) l) l) (grouped t)
+    ∙ left_or_stayed before p (keys_where test es) _
+    (λ _. sym (keys_where-written test es p gone false rising refl))
+    (λ away. sym (keys_where-with_value-same test es p gone rising
+    (subst (λ o. IfSome o (λ r. waits_with t r ≡ false)) (sym there) away) refl))
+
+pub IsGrouped-taken_back : (old new : Grouping) (es : Slots) (p : Prefix) (o : Option Slot) → IsRising prefix_cmp es
+    → value_at prefix_cmp es p ≡ o → IsGrouped old es → Leaves old new (waited o) p
+    → IsGrouped new (taken_back es p o)
+IsGrouped-taken_back old new es p None rising there grouped leaves t = leaves t ∙ grouped t
+IsGrouped-taken_back old new es p (Some s) rising there grouped leaves t =
+    grouped-gone old new es p s.adv s.told rising there grouped leaves t
+
+longer : {A : Type 0} (x : A) (xs : List A) → xs ≡ x ∷ xs → ⊥
+longer x xs is = let same = ap length is in omega (arith, same)
+
+-- a removal undoes the insertion of a new key
+remove_key-insert_key : (p : Prefix) (ks : List Prefix) → remove_key (is_at (prefix_cmp p)) ks ≡ ks
+    → remove_key (is_at (prefix_cmp p)) (insert_key prefix_cmp ks p) ≡ ks
+remove_key-insert_key p [] absent = rw (tied_itself prefix_total p) refl
+remove_key-insert_key p (k ∷ ks) absent = by_ordering (prefix_cmp p k)
+    (λ l. rw (l, tied_itself prefix_total p) refl)
+    (λ e. absurd (longer k ks (rw e at absent)))
+    (λ g.
+    let rest : k ∷ remove_key (is_at (prefix_cmp p)) ks ≡ k ∷ ks = rw g at absent in
+    let same : remove_key (is_at (prefix_cmp p)) ks ≡ ks = cc rest in
+    rw (g, g) (ap (λ (l : List Prefix). k ∷ l) (remove_key-insert_key p ks same)))
+
+-- a prefix that joined a group and left it again
+pub IsGrouped-undone : (old mid new : Grouping) (es : Slots) (p : Prefix) (now : Option (List ℕ))
+    → IsRising prefix_cmp es → IsGrouped old es → Joins old mid now p → Leaves mid new now p
+    → ((t : List ℕ) → same_section now (Some t) ≡ true
+    → same_section (waited (value_at prefix_cmp es p)) (Some t) ≡ false)
+    → IsGrouped new es
+IsGrouped-undone old mid new es p now rising grouped joins leaves apart t =
+    let test = waits_with t in
+    let ks = keys_where test es in
+    let first : group_at mid t ≡ cond (same_section now (Some t)) (insert_key prefix_cmp ks p) ks =
+    joins t ∙ ap (λ l. cond (same_section now (Some t)) (insert_key prefix_cmp l p) l) (grouped t) in
+    let second = leaves t ∙ ap (λ l. cond (same_section now (Some t)) (remove_key (is_at (prefix_cmp p)) l) l) first in
+    second ∙ elim (cases_Bool (same_section now (Some t))) [
+      | inl here ↦
+          let not = passes_not (value_at prefix_cmp es p) t (apart t here) in
+          let absent = sym (keys_where-removed test es p rising) ∙ keys_where-without-same test es p rising not in
+          rw here (remove_key-insert_key p ks absent)
+      | inr away ↦ rw away refl
+    ]
+
+-- groups that are the same as others
+pub IsGrouped-same : (old new : Grouping) (es : Slots) → AreSame old new → IsGrouped old es → IsGrouped new es
+IsGrouped-same old new es same grouped t = same t ∙ grouped t
+
+-- the section with which a prefix waits that is advertised with a section, unless it was told with that
+pub waiting-advertised : (o : Option Slot) (x : List ℕ) (told : Bool)
+    → told ≡ same_section (Some x) (option_and_then (λ s. s.told) o)
+    → cond told None (Some x) ≡ waiting (advertised o x)
+waiting-advertised None x told is = rw is refl
+waiting-advertised (Some s) x true is = rw (sym is) refl
+waiting-advertised (Some s) x false is = rw (sym is) refl
+
+bytes_eq-swapped : (s t : List ℕ) → bytes_eq s t ≡ bytes_eq t s
+bytes_eq-swapped s t =
+    sym (is_eq-slice_cmp s t) ∙ (eq_by_cmp_equiv nat_list_cmp_total).symm s t ∙ is_eq-slice_cmp t s
+
+waits_other : (a : Option (List ℕ)) (fresh : Bool) (x t : List ℕ) → same_section (Some x) a ≡ false → x ≡ t
+    → same_section (cond fresh a None) (Some t) ≡ false
+waits_other a false x t other key = refl
+waits_other None true x t other key = refl
+waits_other (Some y) true x t other key = ap (bytes_eq y) (sym key) ∙ bytes_eq-swapped y x ∙ other
+
+-- which is another than that with which it waited
+pub apart-advertised : (o : Option Slot) (x t : List ℕ) (told : Bool)
+    → same_section (Some x) (option_and_then (λ s. s.adv) o) ≡ false
+    → same_section (cond told None (Some x)) (Some t) ≡ true → same_section (waited o) (Some t) ≡ false
+apart-advertised o x t true other same = absurd (cc same)
+apart-advertised None x t false other same = refl
+apart-advertised (Some s) x t false other same = waits_other s.adv (is_fresh s) x t other (same_bytes x t same)

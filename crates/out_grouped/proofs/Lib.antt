@@ -1,0 +1,7 @@
+pub mod SlotLemmas
+pub mod WaitLemmas
+pub mod GroupLemmas
+pub mod ChangeLemmas
+pub mod PendingLemmas
+pub mod SendingLemmas
+pub mod NextLemmas

@@ -1,0 +1,24 @@
+use Rattle.std.proofs.Common.{◌≡◌, None, Some, option_map, sym, ◌∙◌, ap, subst}
+use Rattle.std.specs.BTreeMap.Range.{IsLeBy}
+use Rattle.std.specs.List.{AllByRecursion}
+use Rattle.xb_values.specs.Prefixes.{prefix_cmp}
+use Rattle.out_grouped.specs.Slots.{is_gone, keys_where}
+use Rattle.out_grouped.specs.Waits.{HasBy}
+use Rattle.out_grouped.proofs.SlotLemmas.{first-lent}
+use Rattle.out_grouped.proofs.entries.first_gone.Goals as goal
+
+pub returns-in_err-prefix : goal.returns-in_err-prefix
+returns-in_err-prefix c =
+    let es = c.args.entries.now.entries in
+    let has : HasBy (Some c.in-Some.from) c.args.gone.now.known.keys (keys_where is_gone es) =
+    subst (λ o. HasBy o c.args.gone.now.known.keys (keys_where is_gone es)) (sym c.in-Some.ensures) c.requires in
+    c.from_residual.ensures ∙ ap (option_map (λ e. e.0.now)) (sym c.in_err-prefix.was)
+    ∙ first-lent is_gone c.in-Some.from es c.find_gone.result has.1 c.find_gone.ensures
+
+pub returns : goal.returns
+returns c =
+    let es = c.args.entries.now.entries in
+    let has : HasBy (Some c.in-Some.from) c.args.gone.now.known.keys (keys_where is_gone es) =
+    subst (λ o. HasBy o c.args.gone.now.known.keys (keys_where is_gone es)) (sym c.in-Some.ensures) c.requires in
+    ap (option_map (λ e. e.0.now)) (sym c.in_ok-prefix.was)
+    ∙ first-lent is_gone c.in-Some.from es c.find_gone.result has.1 c.find_gone.ensures
