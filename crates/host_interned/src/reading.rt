@@ -13,6 +13,7 @@ ghost use Rattle.xbgp_points.specs.Chains.{fault_cmp};
 ghost use Rattle.spk_model.specs.Readers.{entries_in, showing};
 ghost use Rattle.spk_model.specs.Routing.{tables_of};
 ghost use Rattle.spk_session.specs.Routed.{waiting, Tells};
+ghost use Rattle.host_interned.specs.Ribs.{living_by, living_of, sources_by, sources_of};
 ghost use Rattle.host_interned.specs.Meaning.{routing_of, setup_of, IsReady};
 
 use crate::Chosen;
@@ -62,14 +63,16 @@ impl Core {
 
     /// The best routes by prefix.
     pub(crate) fn chosen(&self) -> &Tree<Chosen>
-        ensures { result.now ≡ self.now.rib.chosen }
+        ensures value { result.now ≡ self.now.rib.chosen }
+        ensures sources { sources_by self.now.rib.chosen ≡ sources_of self.now.rib.best }
     {
         self.rib.chosen()
     }
 
     /// The records of all routes.
     pub(crate) fn records(&self) -> &Pool
-        ensures { result.now ≡ self.now.rib.records }
+        ensures value { result.now ≡ self.now.rib.records }
+        ensures routes { living_by self.now.rib.records self.now.rib.chosen ≡ living_of self.now.rib.best }
     {
         self.rib.records()
     }
