@@ -6,6 +6,7 @@ mod KeptLemmas
 mod RemovedLemmas
 mod KnownLemmas
 mod MadeLemmas
+mod EntryLemmas
 mod ShownLemmas
 mod FollowingLemmas
 mod ExportLemmas
