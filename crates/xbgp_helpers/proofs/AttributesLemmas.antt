@@ -1,50 +1,17 @@
--- What was copied of an attribute, and which one is the least from a code on.
-use Rattle.std.proofs.Common.{◌≡◌, inl, inr, refl, sym, ap, ◌∙◌, ℕ, ◌+◌, ◌*◌, ◌<◌, ◌≤◌, List, [], ◌∷◌, length, Option}
-use Rattle.std.proofs.Common.{Some, None, arith, nat_le, find, eq-eqb}
-use Rattle.std.specs.Option.{option_map, unwrap_or}
+-- Which attribute of a route is the least from a code on.
+use Rattle.std.proofs.Common.{◌≡◌, inl, inr, refl, sym, ap, ◌∙◌, ℕ, ◌+◌, ◌*◌, ◌<◌, List, [], ◌∷◌, Option}
+use Rattle.std.proofs.Common.{Some, None, arith, nat_le, find}
+use Rattle.std.specs.Option.{unwrap_or}
 use Rattle.std.specs.List.{AllByRecursion}
 use Rattle.std.specs.List.Sorted.{IsStrictlySortedBy}
 use Rattle.std.specs.Map.{keys_of}
 use Rattle.std.specs.Ordering.{nat_cmp}
-use Rattle.std.proofs.lemmas.Bool.{cases_Bool, le-ltb, leb-false}
-use Rattle.std.proofs.lemmas.List.{append-nil, drop_all}
+use Rattle.std.proofs.lemmas.Bool.{cases_Bool, leb-false}
 use Rattle.bgp_attr.specs.Routes.{Attribute, Route, attribute_at, IsEntry}
-use Rattle.bpf_mem.specs.Memory.{Memory}
-use Rattle.bpf_mem.specs.Offsets.{lent}
-use Rattle.xbgp_view.specs.Views.{code_from, copied, flags_and_length}
+use Rattle.xbgp_view.specs.Views.{code_from, flags_and_length}
 use Rattle.xbgp_view.proofs.LowerLemmas.{nat_cmp-greater, nat_cmp-equal}
 use Rattle.xbgp_view.proofs.ViewsLemmas.{value_in, flags_and_length-some, IsNext-code_from}
-use Rattle.xbgp_helpers.specs.Helping.{copied_attr, code_and_flags}
-use Rattle.xbgp_helpers.specs.Memories.{written}
-
--- a value that was copied to as many octets as it has
-copied-whole : (a : Attribute) (old new : List ℕ) → length old ≡ length a.value → new ≡ copied (Some a) old
-    → new ≡ a.value
-copied-whole a old new size e =
-    let n : length old ≤ length a.value = omega (arith, size) in
-    let fits : length a.value ≤ length old = omega (arith, size) in
-    e ∙ rw (le-ltb (length old) (length a.value) fits, drop_all (length a.value) old n, append-nil a.value) refl
-
--- memory after a range was lent and left with octets of its length
-lent-written : (m : Memory) (dst len : ℕ) (bytes : List ℕ) → length bytes ≡ len
-    → lent m dst len bytes ≡ written m dst bytes
-lent-written m dst len bytes e = rw (eq-eqb (length bytes) len e) refl
-
--- memory after the value of an attribute was copied to a range of its length
-pub lent-copied : (m : Memory) (dst room flags len : ℕ) (o : Option Attribute) (old new : List ℕ)
-    → ◌≡◌ {A = Option (ℕ × ℕ)} (Some (flags, len)) (option_map (λ a. (a.flags, length a.value)) o)
-    → len ≤ room → length old ≡ len → new ≡ copied o old → lent m dst len new ≡ (copied_attr m dst room o).1
-lent-copied m dst room flags len o old new told few size e =
-    let k = flags_and_length-some o flags len told in
-    let a : Attribute = record { flags = flags; value = value_in o } in
-    let whole : new ≡ a.value = copied-whole a old new (size ∙ sym k.1) (e ∙ ap (λ o. copied o old) k.0) in
-    let short : length a.value ≤ room = omega (arith, k.1, few) in
-    let there : (copied_attr m dst room (Some a)).1 ≡ written m dst a.value = rw (le-ltb room (length a.value) short)
-    refl in
-    lent-written m dst len new (ap length whole ∙ k.1)
-    ∙ ap (λ (s : List ℕ). written m dst s) whole
-    ∙ sym there
-    ∙ ap (λ o. (copied_attr m dst room o).1) (sym k.0)
+use Rattle.xbgp_helpers.specs.Helping.{code_and_flags}
 
 -- the first entry of a route from a code on
 pub record IsFirst (r : Route) (from code : ℕ) (e : ℕ × Attribute) : Type 0 where

@@ -3,3 +3,4 @@ pub mod TreesLemmas
 pub mod TablesLemmas
 pub mod JournalsLemmas
 pub mod MappingsLemmas
+pub mod KeysLemmas

@@ -16,6 +16,7 @@
 #![tactic(auto)]
 
 mod journal;
+mod key;
 pub mod laws;
 pub mod limits;
 mod maps;

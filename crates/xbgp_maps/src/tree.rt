@@ -7,6 +7,7 @@ ghost use Rattle.xbgp_maps.specs.Mappings.{key_cmp};
 ghost use Rattle.xbgp_maps.specs.Trees.{entries_of, entries_below, entry_of, height_of, HaveWidth, IsAlone};
 ghost use Rattle.xbgp_maps.specs.Trees.{IsBalanced, IsBalancedBelow, IsLow, IsSameOrOneMore, IsTaken};
 
+use crate::key::order;
 use crate::node::{Node, Tree, balanced};
 use std::cmp::Ordering;
 
@@ -20,7 +21,7 @@ pub(crate) fn find<'t>(tree: &'t Tree, key: &[u8]) -> Option<&'t [u8]>
         Tree::Leaf => None,
         Tree::Fork(node) => {
             let node = &**node;
-            match key.cmp(&node.key.as_slice()) {
+            match order(key, &node.key) {
                 Ordering::Less => find(&node.left, key),
                 Ordering::Greater => find(&node.right, key),
                 Ordering::Equal => Some(node.value.as_slice()),
@@ -63,7 +64,7 @@ pub(crate) fn first_after<'t>(tree: &'t Tree, key: &[u8]) -> Option<(&'t [u8], &
         Tree::Leaf => None,
         Tree::Fork(node) => {
             let node = &**node;
-            match key.cmp(&node.key.as_slice()) {
+            match order(key, &node.key) {
                 Ordering::Less => match first_after(&node.left, key) {
                     None => Some(entry(node)),
                     found => found,
@@ -95,7 +96,7 @@ pub(crate) fn overwrite(tree: &mut Tree, key: &[u8], value: &[u8])
 {
     if let Tree::Fork(node) = tree {
         let node = &mut **node;
-        match key.cmp(&node.key.as_slice()) {
+        match order(key, &node.key) {
             Ordering::Less => overwrite(&mut node.left, key, value),
             Ordering::Greater => overwrite(&mut node.right, key, value),
             Ordering::Equal => copy_over(&mut node.value, value),
@@ -120,7 +121,7 @@ fn with_node(tree: Tree, new: Box<Node>) -> Tree
         // the node still has the height it had before it was removed
         Tree::Leaf => Tree::Fork(balanced(new)),
         Tree::Fork(mut node) => {
-            match new.key.as_slice().cmp(&node.key.as_slice()) {
+            match order(&new.key, &node.key) {
                 Ordering::Less => {
                     node.left = with_node(node.left.take(), new);
                     Tree::Fork(balanced(node))
@@ -205,7 +206,7 @@ fn without_node(tree: Tree, key: &[u8]) -> (Tree, Option<Box<Node>>)
 {
     match tree {
         Tree::Leaf => (Tree::Leaf, None),
-        Tree::Fork(mut node) => match key.cmp(&node.key.as_slice()) {
+        Tree::Fork(mut node) => match order(key, &node.key) {
             Ordering::Less => {
                 let (rest, taken) = without_node(node.left.take(), key);
                 node.left = rest;
