@@ -76,7 +76,8 @@ pub kept-advertised : (gone fresh gone_after fresh_after : Waiting) (groups afte
     → ((ps : List Prefix) → Has gone ps → Has gone_after (with_wait ps p false))
     → ((ps : List Prefix) → Has fresh ps → Has fresh_after (with_wait ps p waits))
     → IsGrouped after new → IsKept gone_after fresh_after after new
-kept-advertised gone fresh gone_after fresh_after groups after es new p x waits short kept is waits_is on_gone on_fresh grouped =
+kept-advertised gone fresh gone_after fresh_after groups after es new p x waits short kept is waits_is on_gone on_fresh
+    grouped =
     let s = advertised (value_at prefix_cmp es p) x in
     let rising = kept.sound.rising in
     record {
@@ -165,7 +166,8 @@ pub kept-taken_back : (gone fresh gone_after fresh_after : Waiting) (groups afte
     → ((ps : List Prefix) → Has gone ps → Has gone_after (with_wait ps p waits))
     → ((ps : List Prefix) → Has fresh ps → Has fresh_after (with_wait ps p false))
     → IsGrouped after new → IsKept gone_after fresh_after after new
-kept-taken_back gone fresh gone_after fresh_after groups after es new p waits kept is waits_is on_gone on_fresh grouped =
+kept-taken_back gone fresh gone_after fresh_after groups after es new p waits kept is waits_is on_gone on_fresh
+    grouped =
     let o = value_at prefix_cmp es p in
     let rising = kept.sound.rising in
     record {

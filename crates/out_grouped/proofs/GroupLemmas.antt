@@ -21,7 +21,8 @@ use Rattle.xb_values.specs.Prefixes.{Prefix, prefix_cmp}
 use Rattle.xb_values.proofs.PrefixLemmas.{prefix_total}
 use Rattle.bgp_write.specs.Pending.{same_section}
 use Rattle.bgp_write.proofs.SetLemmas.{by_ordering}
-use Rattle.out_grouped.specs.Slots.{Slot, Slots, keys_where, taken_back, waited, waiting, waits_with, advertised, is_fresh}
+use Rattle.out_grouped.specs.Slots.{Slot, Slots, advertised, is_fresh, keys_where, taken_back, waited, waiting}
+use Rattle.out_grouped.specs.Slots.{waits_with}
 use Rattle.out_grouped.specs.Groups.{Grouping, group_at, members, AreSame, IsGrouped, Joins, Leaves}
 use Rattle.out_grouped.proofs.SlotLemmas.{keys_where-written, keys_where-removed}
 use Rattle.out_grouped.proofs.SlotLemmas.{keys_where-with_value-same, keys_where-without-same}

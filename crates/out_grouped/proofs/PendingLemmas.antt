@@ -109,7 +109,8 @@ filter-keys es (f ∷ fs) rising all =
     value_at-part (λ s. s.adv) es f.0 rising ∙ ap (option_and_then (λ (s : Slot). s.adv)) all.0 in
     let told : value_at prefix_cmp (told_in es) f.0 ≡ f.1.told =
     value_at-part (λ s. s.told) es f.0 rising ∙ ap (option_and_then (λ (s : Slot). s.told)) all.0 in
-    let same : differs (adv_in es) (told_in es) f.0 ≡ waits f.1 = ap (λ o. not (same_section o (value_at prefix_cmp (told_in es) f.0))) adv
+    let same : differs (adv_in es) (told_in es) f.0 ≡ waits f.1 =
+    ap (λ o. not (same_section o (value_at prefix_cmp (told_in es) f.0))) adv
     ∙ ap (λ o. not (same_section f.1.adv o)) told in
     elim (cases_Bool (waits f.1)) [
       | inl wait ↦ rw (same, wait) (ap (λ (l : List Prefix). f.0 ∷ l) (filter-keys es fs rising all.1))
@@ -212,7 +213,8 @@ filter-has_section es (f ∷ fs) s rising all =
     let adv : value_at prefix_cmp (adv_in es) f.0 ≡ f.1.adv =
     value_at-part (λ s. s.adv) es f.0 rising ∙ ap (option_and_then (λ (s : Slot). s.adv)) all.0 in
     let has : has_section (adv_in es) s f.0 ≡ same_section f.1.adv (Some s) = ap (λ o. same_section o (Some s)) adv in
-    let both : waits_with s f.1 ≡ (is_fresh f.1 && same_section f.1.adv (Some s)) = with_section f.1.adv (is_fresh f.1) s in
+    let both : waits_with s f.1 ≡ (is_fresh f.1 && same_section f.1.adv (Some s)) =
+    with_section f.1.adv (is_fresh f.1) s in
     elim (cases_Bool (is_fresh f.1)) [
       | inl fresh ↦ elim (cases_Bool (same_section f.1.adv (Some s))) [
         | inl same ↦

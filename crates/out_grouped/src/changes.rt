@@ -12,8 +12,8 @@ use crate::groups::{Groups, join, leave, undo_join};
 use std::alloc::{AllocError, Global};
 use xb_values::Prefix;
 
-/// Advertises a section with which the prefix was not advertised. Whether it then waits to be announced is returned. The
-/// error is want of memory; then the entries are unchanged.
+/// Advertises a section with which the prefix was not advertised. Whether it then waits to be announced is returned.
+/// The error is want of memory; then the entries are unchanged.
 pub(crate) fn advertise(
     entries: &mut Entries,
     groups: &mut Groups,

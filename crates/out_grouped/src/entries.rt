@@ -21,8 +21,8 @@ use xb_values::Prefix;
 
 pub(crate) type Entries = BTreeMap<Prefix, Entry>;
 
-/// Advertises a section. The section with which the prefix waited is returned. The error is want of memory; then nothing
-/// changed, and the prefix is new.
+/// Advertises a section. The section with which the prefix waited is returned. The error is want of memory; then
+/// nothing changed.
 pub(crate) fn put(
     entries: &mut Entries,
     alloc: Global,

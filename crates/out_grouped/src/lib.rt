@@ -2,9 +2,9 @@
 //! 3.2 and 4.3), packed by section of path attributes.
 //!
 //! A [`GroupedOut`] takes a section of path attributes for a prefix, or takes a prefix back. What the peer was told and
-//! what is advertised then differ at some prefixes, and [`GroupedOut::next_message`] writes the next UPDATE: withdrawals
-//! as long as there are any, and otherwise all prefixes that wait with the section of the first one, wherever they
-//! stand. `bgp_write` has the definition of that message, and its `Packer` writes it.
+//! what is advertised then differ at some prefixes, and [`GroupedOut::next_message`] writes the next UPDATE:
+//! withdrawals as long as there are any, and otherwise all prefixes that wait with the section of the first one,
+//! wherever they stand. `bgp_write` has the definition of that message, and its `Packer` writes it.
 //!
 //! The table is one ordered map whose entries each hold a section, or two if the peer was told another one than is
 //! advertised. Beside it are the set of the prefixes that wait to be withdrawn, the set of those that wait to be

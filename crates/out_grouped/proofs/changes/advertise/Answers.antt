@@ -19,7 +19,8 @@ returns-in-Ok-clause-groups c =
       | then-told w ↦ rw (w.joined-is, w.if-told.true) refl
       | else-told w ↦ rw (w.joined-is, w.if-told.false) refl
     ] in
-    let joins = subst (λ (s : Option (List ℕ)). Joins c.args.groups.now c.join.new.groups s p) now c.in_ok-join.ensures.ok in
+    let joins = subst (λ (s : Option (List ℕ)). Joins c.args.groups.now c.join.new.groups s p) now
+    c.in_ok-join.ensures.ok in
     let leaves = subst (λ (s : Option (List ℕ)). Leaves c.join.new.groups c.leave.new.groups s p) c.in-Ok.ensures.waited
     c.leave.ensures in
     subst (λ (l : Slots). IsGrouped c.leave.new.groups l) (sym c.in-Ok.ensures.ok)
@@ -39,7 +40,8 @@ returns-in-Err-clause-groups c =
       | then-told w ↦ rw (w.joined-is, w.if-told.true) refl
       | else-told w ↦ rw (w.joined-is, w.if-told.false) refl
     ] in
-    let joins = subst (λ (s : Option (List ℕ)). Joins c.args.groups.now c.join.new.groups s p) now c.in_ok-join.ensures.ok in
+    let joins = subst (λ (s : Option (List ℕ)). Joins c.args.groups.now c.join.new.groups s p) now
+    c.in_ok-join.ensures.ok in
     let leaves = subst (λ (s : Option (List ℕ)). Leaves c.join.new.groups c.undo_join.new.groups s p) now
     c.undo_join.ensures in
     subst (λ (l : Slots). IsGrouped c.undo_join.new.groups l) (sym c.in-Err.ensures.err)

@@ -13,6 +13,7 @@ returns-clause-ok c =
     let updates = subst (λ (s : List ℕ). UpdatesBy section_cmp (at_section s) old c.insert-2.new.self (Some group))
     c.in_ok-section.ensures c.in_ok-insert-2.ensures.updates in
     let one = c.in_ok-insert.ensures.keys
-    ∙ ap (λ (ks : List Prefix). insert_key prefix_cmp ks c.args.prefix) (c.new-group.ensures.empty ∙ sym (ap members c.requires)) in
+    ∙ ap (λ (ks : List Prefix). insert_key prefix_cmp ks c.args.prefix)
+    (c.new-group.ensures.empty ∙ sym (ap members c.requires)) in
     group_at-updated (λ ks. insert_key prefix_cmp ks c.args.prefix) old c.insert-2.new.self c.args.section.now
     (Some group) updates one

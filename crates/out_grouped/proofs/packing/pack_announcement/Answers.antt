@@ -1,4 +1,4 @@
-use Rattle.std.proofs.Common.{◌≡◌, List, ℕ, Some, sym, ◌∙◌, ap, subst}
+use Rattle.std.proofs.Common.{◌≡◌, List, [], ℕ, Some, sym, ◌∙◌, ap, subst}
 use Rattle.xb_values.specs.Prefixes.{Prefix}
 use Rattle.bgp_write.specs.Packers.{packed_so_far}
 use Rattle.bgp_write.specs.Packings.{Packed, announcing}
@@ -46,5 +46,15 @@ returns-in-Some c =
       capacity = p.capacity;
     }
 
-pub returns-in_default : goal.returns-in_default
-returns-in_default c = ?
+pub returns-in_default-clause-formed : goal.returns-in_default-clause-formed
+returns-in_default-clause-formed c =
+    let es = c.args.entries.now.entries in
+    let packed = packed_so_far c.args.packer.now in
+    let section = section_of (adv_in es) c.args.first in
+    let none = ap (λ (s : List ℕ). keys_where (waits_with s) es) (sym c.section_at.ensures)
+    ∙ sym (c.requires.groups c.section_at.result.now) ∙ sym (ap members c.in_default.ensures.value) in
+    let shape = c.requires.packer
+    ∙ ap (λ l. record (announcing section) { prefixes = l })
+    (sym (ap (λ (x : Packed). x.prefixes) c.requires.packer)) in
+    sym (announcement_from-all es section packed shape none)
+    ∙ ap (λ (x : Packed). announcement_from section x.prefixes es) c.requires.packer

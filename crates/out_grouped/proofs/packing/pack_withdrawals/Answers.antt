@@ -27,8 +27,8 @@ prefixes-init c =
       capacity = refl;
     }
 
-pub next_gone-next-requires : goal.next_gone-next-requires
-next_gone-next-requires c =
+pub next_gone-requires : goal.next_gone-requires
+next_gone-requires c =
     let i = c.prefixes.invariant in
     let es = c.prefixes.entries.entries in
     let new = c.forget.new.entries.entries in
@@ -36,7 +36,8 @@ next_gone-next-requires c =
     let split = keys_where-without is_gone es left i.keeps.sound.rising i.first
     ∙ ap (λ l. left ∷ keys_where is_gone l) (sym c.forget.ensures) in
     record {
-      rising = (keeps-without es es new left (keeps-itself is_gone es i.keeps.sound) i.first c.forget.ensures).sound.rising;
+      rising =
+          (keeps-without es es new left (keeps-itself is_gone es i.keeps.sound) i.first c.forget.ensures).sound.rising;
       waits = c.remove_first.ensures left (keys_where is_gone new)
           (subst (λ (ps : List Prefix). Has c.prefixes.gone ps) split i.waits);
     }

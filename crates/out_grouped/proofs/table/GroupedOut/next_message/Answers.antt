@@ -15,8 +15,8 @@ use Rattle.out_grouped.proofs.table.GroupedOut.next_message.Goals as goal
 pub invariant_of-self : goal.invariant_of-self
 invariant_of-self c =
     let es = c.self.inside.entries.entries in
-    let new = c.withdraw-self-inside.new.entries.entries in
-    let w = c.withdraw-self-inside.ensures in
+    let new = c.withdraw.new.entries.entries in
+    let w = c.withdraw.ensures in
     record {
       sound = w.keeps.sound;
       gone = w.waits;
@@ -33,7 +33,7 @@ returns-in-Some c =
     let first = sym c.in-Some.ensures.first in
     let f = withdrawal_from [] es in
     let formed = form-seen es t (Some f) c.self.view_is (form-gone es p c.self.invariant.sound first) in
-    let w = c.withdraw-self-inside in
+    let w = c.withdraw in
     record {
       formed = sym (ap is_some formed);
       none = pending-formed es t f c.self.invariant.sound c.self.view_is formed;
@@ -46,12 +46,12 @@ returns-in-Some c =
       message = w.ensures.message;
     }
 
-pub returns-in_default-prefix : goal.returns-in_default-prefix
-returns-in_default-prefix c =
+pub returns-in_default-next_fresh : goal.returns-in_default-next_fresh
+returns-in_default-next_fresh c =
     let es = c.self.inside.entries.entries in
     let t = c.args.self.now in
     let gone = sym c.in_default.ensures.first in
-    let fresh = sym c.in_default-prefix.ensures.first in
+    let fresh = sym c.in_default-next_fresh.ensures.first in
     let formed = form-seen es t None c.self.view_is (form-none es c.self.invariant.sound gone fresh) in
     record {
       formed = sym (ap is_some formed);
@@ -66,10 +66,10 @@ returns-in_default-prefix c =
 
 pub invariant_of-self-2 : goal.invariant_of-self-2
 invariant_of-self-2 c =
-    let w = c.announce-self-inside.ensures in
+    let w = c.announce.ensures in
     record {
       sound = w.sound;
-      gone = subst (λ (ps : List Prefix). Has c.next_gone-self-inside.new.gone ps) (sym w.gone)
+      gone = subst (λ (ps : List Prefix). Has c.next_gone.new.gone ps) (sym w.gone)
           c.in_default.ensures.waits;
       fresh = w.waits;
       groups = w.groups;
@@ -79,12 +79,12 @@ pub returns : goal.returns
 returns c =
     let es = c.self.inside.entries.entries in
     let t = c.args.self.now in
-    let p = c.in-Some-prefix.prefix in
+    let p = c.in-Some-next_fresh.prefix in
     let gone = sym c.in_default.ensures.first in
-    let first = sym c.in-Some-prefix.ensures.first in
+    let first = sym c.in-Some-next_fresh.ensures.first in
     let f = announcement_from (section_of (adv_in es) p) [] es in
     let formed = form-seen es t (Some f) c.self.view_is (form-fresh es p c.self.invariant.sound gone first) in
-    let w = c.announce-self-inside in
+    let w = c.announce in
     record {
       formed = sym (ap is_some formed);
       none = pending-formed es t f c.self.invariant.sound c.self.view_is formed;
