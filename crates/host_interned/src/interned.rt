@@ -176,18 +176,18 @@ impl Host for Interned {
 impl Interned {
     /// The best routes: for each prefix the number of the source, and the id of the record.
     pub fn routes(&self) -> &Tree<Chosen>
-        ensures { map (λ e. (e.0, (e.1).source)) result.now
+        ensures value { result.now ≡ self.now.sessions.routes.chosen }
+        ensures sources { map (λ e. (e.0, (e.1).source)) result.now
             ≡ map (λ e. (e.0, (e.1).source)) (⟦<Interned as Host>⟧.speaker self.now).routing.best }
     {
         self.sessions.routes().chosen()
     }
 
-    // TODO: with `ensures value { result.now ≡ self.now.routes }` at `Sessions::routes` of spk_session, `routes` says
-    // that it hands out `self.now.sessions.routes.chosen`, and this call says of the same ids:
-    //     ensures routes { map (λ e. (e.0, route_at result.now (e.1).«record»)) self.now.sessions.routes.chosen
-    //         ≡ map (λ e. (e.0, Some (e.1).route)) (⟦<Interned as Host>⟧.speaker self.now).routing.best }
     /// The records of all routes that the host keeps.
-    pub fn records(&self) -> &Pool {
+    pub fn records(&self) -> &Pool
+        ensures { map (λ e. (e.0, route_at result.now (e.1).«record»)) self.now.sessions.routes.chosen
+            ≡ map (λ e. (e.0, Some (e.1).route)) (⟦<Interned as Host>⟧.speaker self.now).routing.best }
+    {
         self.sessions.routes().records()
     }
 }

@@ -1,6 +1,6 @@
 // The routes of a speaker, as ids of shared records.
-ghost use Rattle.std.specs.Prelude.{◌≡◌, ◌<◌, ◌≤◌, ◌==◌, ◌++◌, ◌↔◌, [], length, replicate, flat_map, is_some, IfOk};
-ghost use Rattle.std.specs.Prelude.{IfSome, IsSome, IsFalse, OnOk, OnErr};
+ghost use Rattle.std.specs.Prelude.{◌≡◌, ◌<◌, ◌≤◌, ◌==◌, ◌++◌, ◌↔◌, [], length, map, replicate, flat_map, Some};
+ghost use Rattle.std.specs.Prelude.{is_some, IfOk, IfSome, IsSome, IsFalse, OnOk, OnErr};
 ghost use Rattle.std.specs.Bool.{OnTrue};
 ghost use Rattle.std.specs.List.{AllByRecursion};
 ghost use Rattle.std.specs.Map.{keys_of};
@@ -93,13 +93,17 @@ impl Rib {
     pub(crate) fn chosen(&self) -> &Tree<Chosen>
         ensures value { result.now ≡ self.now.chosen }
         ensures rising { IsRising prefix_cmp result.now }
+        ensures sources { map (λ e. (e.0, (e.1).source)) self.now.chosen
+            ≡ map (λ e. (e.0, (e.1).source)) self.now.best }
     {
         &self.best
     }
 
     /// The records of all routes.
     pub(crate) fn records(&self) -> &Pool
-        ensures { result.now ≡ self.now.records }
+        ensures value { result.now ≡ self.now.records }
+        ensures routes { map (λ e. (e.0, route_at self.now.records (e.1).«record»)) self.now.chosen
+            ≡ map (λ e. (e.0, Some (e.1).route)) self.now.best }
     {
         &self.records
     }
