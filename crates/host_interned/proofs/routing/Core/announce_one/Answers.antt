@@ -47,7 +47,7 @@ returns-else-accepts-clause-does c =
     c.inbound-outcome.new.route.route) c.from.ensures c.inbound-outcome.ensures.answers)
     c.local_of.ensures.value c.inbound_native.ensures c.if-accepts.ensures c.remove.ensures
 
-pub put-requires : goal.put-requires
-put-requires c =
+pub put-requires-clause-sound : goal.put-requires-clause-sound
+put-requires-clause-sound c =
     keeps_sound c.load.new.self.route c.inbound-outcome.new.route.route c.inbound-outcome.ensures.keeps
     (subst IsSound (sym (ap (λ (x : Edited). x.route) c.load.ensures)) c.requires.sound)
