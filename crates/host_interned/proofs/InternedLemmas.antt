@@ -3,7 +3,7 @@ use Rattle.std.proofs.Common.{◌≡◌, sym, ◌∙◌, ap, subst, ℕ, ◌≤�
 use Rattle.std.proofs.Common.{Bool, Option, Some, None}
 use Rattle.std.specs.Prelude.{Result, Ok, Err, IfSome, OnOk, is_some, slice_index_or}
 use Rattle.std.specs.List.{slice_set}
-use Rattle.std.specs.List.Grouped.{IsStrictlyGroupedBy}
+use Rattle.std.specs.List.Sorted.{IsStrictlySortedBy}
 use Rattle.std.specs.declared.alloc.AllocError.{AllocError}
 use Rattle.std.specs.declared.alloc.Global.{Global}
 use Rattle.std.proofs.lemmas.List.{set-get_or, get_or-set_same}
@@ -85,6 +85,6 @@ module _ (a : Core) (p : ℕ) (ready : IsReady a) (least : 1 ≤ p) (most : p �
 
 -- the keys of a map rise
 pub rising_in : (o : Option Mapping) → IfSome o IsMapping → IsRising key_cmp (entries_in o)
-unfolding IsStrictlyGroupedBy
+unfolding IsStrictlySortedBy
 rising_in None known = tt
 rising_in (Some m) known = known.rising

@@ -1,6 +1,11 @@
 mod MappedLemmas
 mod OwnerLemmas
 mod RibLemmas
+mod HeldLemmas
+mod KeptLemmas
+mod RemovedLemmas
+mod KnownLemmas
+mod MadeLemmas
 mod ShownLemmas
 mod FollowingLemmas
 mod ExportLemmas

@@ -1,9 +1,11 @@
 -- Entries whose values are read by a function: what a write, a removal and a walk make of them.
-use Rattle.std.proofs.Common.{◌≡◌, refl, sym, ◌∙◌, ap, List, [], ◌∷◌, map, filter, Option, Some, None}
+use Rattle.std.proofs.Common.{◌≡◌, refl, sym, ◌∙◌, ap, subst, List, [], ◌∷◌, map, filter, Option, Some, None}
 use Rattle.std.specs.Option.{option_map}
+use Rattle.std.specs.List.Sorted.{IsStrictlySortedBy}
+use Rattle.std.specs.Map.{keys_of}
 use Rattle.std.specs.Ordering.{is_lt}
 use Rattle.std.specs.declared.cmp.Ordering.{Ordering}
-use Rattle.xb_words.specs.Table.{with_value, without, entry_after, first_of}
+use Rattle.xb_words.specs.Table.{value_at, with_value, without, entry_after, first_of, IsRising}
 use Rattle.attr_intern.proofs.LookupLemmas.{by_ordering}
 
 module _ {K A B : Type 0} (c : K → K → Ordering) (f : A → B) where
@@ -38,6 +40,22 @@ module _ {K A B : Type 0} (c : K → K → Ordering) (f : A → B) where
       (λ l. rw l (ap (λ (t : List (K × B)). (e.0, f e.1) ∷ t) (mapped-after es k)))
       (λ q. rw q (mapped-after es k))
       (λ g. rw g (mapped-after es k))
+
+  -- a look-up, read
+  pub value_at-mapped : (es : List (K × A)) (k : K) → value_at c (mapped es) k ≡ option_map f (value_at c es k)
+  value_at-mapped [] k = refl
+  value_at-mapped (e ∷ es) k = by_ordering (c k e.0)
+      (λ l. rw l (value_at-mapped es k))
+      (λ q. rw q refl)
+      (λ g. rw g (value_at-mapped es k))
+
+  -- the keys are the same
+  pub keys-mapped : (es : List (K × A)) → keys_of (mapped es) ≡ keys_of es
+  keys-mapped [] = refl
+  keys-mapped (e ∷ es) = ap (λ (ks : List K). e.0 ∷ ks) (keys-mapped es)
+
+  pub rising-mapped : (es : List (K × A)) → IsRising c es → IsRising c (mapped es)
+  rising-mapped es rising = subst (IsStrictlySortedBy c) (sym (keys-mapped es)) rising
 
   -- the next key is the same
   pub next_key-mapped : (es : List (K × A)) (after : Option K)

@@ -25,13 +25,13 @@ use Rattle.host_interned.specs.Ribs.{best_by, meant, route_or, routes_by, same_i
 
 has_owner : (o : Option Owned) → 1 ≤ owners_of o → IsSome o
 has_owner None least = absurd (omega (arith, least))
-has_owner (Some o) least = tt
+has_owner (Some o) least = refl
 
 apart_ids : (a b : ℕ) → a ≢ b → nat_cmp a b ≢ Equal
 apart_ids a b apart same = apart (exact_unsigned a b same)
 
 -- a record with its route and one owner more
-abbrev one_owner_more : Records → ℕ → Route → Owned
+abbrev pub one_owner_more : Records → ℕ → Route → Owned
 one_owner_more records id route = record { route = route; owners = one_more (owners_at records id) }
 
 module _ (records : Records) (id : ℕ) (route : Route) where
@@ -115,7 +115,8 @@ record_at-with_record-other records id None k rising apart =
 record_at-with_record-other records id (Some o) k rising apart =
     value_at-with_value-other nat_cmp nat_cmp_total records id o k (apart_ids k id apart)
 
-record_at-with_record : (records : Records) (id : ℕ) (o : Option Owned) → IsRising nat_cmp records
+-- what is left at the id itself
+pub record_at-with_record : (records : Records) (id : ℕ) (o : Option Owned) → IsRising nat_cmp records
     → record_at (with_record records id o) id ≡ o
 record_at-with_record records id None rising =
     value_at-without nat_cmp nat_cmp_total records id id rising

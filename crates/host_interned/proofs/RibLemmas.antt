@@ -4,6 +4,7 @@ use Rattle.std.specs.Prelude.{◌==◌, if◌then◌else◌}
 use Rattle.std.specs.List.{sum_by, AllByRecursion}
 use Rattle.std.specs.Map.{values_of}
 use Rattle.std.proofs.lemmas.Bool.Decides.{eqb_tells}
+use Rattle.std.proofs.lemmas.List.Sums.{sum_by-cons}
 use Rattle.xb_values.specs.Prefixes.{Prefix}
 use Rattle.bgp_attr.specs.Routes.{Route}
 use Rattle.xbgp_view.specs.Views.{Routes}
@@ -20,22 +21,23 @@ use Rattle.host_interned.proofs.OwnerLemmas.{best_by-same, routes_by-same}
 abbrev pub KeepsMeaning : Records → Records → (ℕ → ℕ) → Type 0
 KeepsMeaning old new held = (id : ℕ) → 1 ≤ held id → route_at new id ≡ route_at old id
 
-same_self : (id : ℕ) → same_id id id ≡ 1
+pub same_self : (id : ℕ) → same_id id id ≡ 1
 same_self id = elim (eqb_tells id id) [
   | inl here ↦ rw here.0 refl
   | inr apart ↦ absurd (apart.1 refl)
 ]
 
 -- what holds of each id that entries hold holds of all of them
-held_each : {X : Type 0} (id_of : X → ℕ) (P : ℕ → Type 0) (es : List (Prefix × X))
+pub held_each : {X : Type 0} (id_of : X → ℕ) (P : ℕ → Type 0) (es : List (Prefix × X))
     → ((id : ℕ) → 1 ≤ sum_by (λ x. same_id id (id_of x)) (values_of es) → P id) → AllByRecursion (λ e. P (id_of e.1)) es
 held_each id_of P [] each = tt
-held_each id_of P (e ∷ es) each =
-    let here : 1 ≤ sum_by (λ x. same_id (id_of e.1) (id_of x)) (values_of (e ∷ es)) =
-    let one = same_self (id_of e.1) in omega (arith, one) in (
-      each (id_of e.1) here,
-      held_each id_of P es (λ id least. each id (omega (arith, least))),
-    )
+held_each id_of P (e ∷ es) each = (
+  each (id_of e.1)
+      (let one = same_self (id_of e.1) in
+      omega (arith, one, sum_by-cons (λ x. same_id (id_of e.1) (id_of x)) e.1 (values_of es))),
+  held_each id_of P es
+      (λ id least. each id (omega (arith, least, sum_by-cons (λ x. same_id id (id_of x)) e.1 (values_of es)))),
+)
 
 tables_by-same : (old new : Records) (t : PeerTables) → KeepsMeaning old new (λ id. times_sent id t)
     → tables_by new t ≡ tables_by old t
@@ -48,9 +50,9 @@ all_tables-same : (old new : Records) (ts : List PeerTables) → KeepsMeaning ol
 all_tables-same old new [] keeps = refl
 all_tables-same old new (t ∷ ts) keeps =
     ap (λ (x : Tables). x ∷ map (tables_by new) ts)
-    (tables_by-same old new t (λ id least. keeps id (omega (arith, least))))
+    (tables_by-same old new t (λ id least. keeps id (omega (arith, least, sum_by-cons (times_sent id) t ts))))
     ∙ ap (λ (l : List Tables). tables_by old t ∷ l)
-    (all_tables-same old new ts (λ id least. keeps id (omega (arith, least))))
+    (all_tables-same old new ts (λ id least. keeps id (omega (arith, least, sum_by-cons (times_sent id) t ts))))
 
 -- a rib shows the same
 pub shows_same : (old new : Records) (own : ℕ) (chosen : List (Prefix × Chosen)) (peers : List PeerTables)

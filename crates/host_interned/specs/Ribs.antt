@@ -10,7 +10,7 @@ use Rattle.xbgp_view.specs.Views.{Routes}
 use Rattle.spk_model.specs.Routing.{Tables, no_tables}
 use Rattle.spk_model.specs.Routing.{Chosen as Best}
 use Rattle.spk_routes.specs.Sound.{IsSound}
-use Rattle.attr_intern.specs.Pools.{Records, Owned, owners_at, record_at, released, route_at, most_owners}
+use Rattle.attr_intern.specs.Pools.{Records, Owned, owners_at, record_at, released, route_at, most_owners, ArePooled}
 use Rattle.host_interned.specs.declared.chosen.Chosen.{Chosen}
 use Rattle.host_interned.specs.declared.tables.PeerTables.{PeerTables}
 
@@ -62,6 +62,20 @@ pub record Shows (own : Route) (best : List (Prefix × Best)) (tables : List Tab
   pub own_is : r.own ≡ own
   pub best_is : r.best ≡ best
   pub tables_are : r.tables ≡ tables
+
+-- the sources of best routes by prefix: by ids, and as they are
+abbrev pub sources_by : List (Prefix × Chosen) → List (Prefix × ℕ)
+sources_by chosen = map (λ e. (e.0, (e.1).source)) chosen
+
+abbrev pub sources_of : List (Prefix × Best) → List (Prefix × ℕ)
+sources_of best = map (λ e. (e.0, (e.1).source)) best
+
+-- the routes of best routes by prefix: those of ids, if they live, and those of routes that are there
+abbrev pub living_by : Records → List (Prefix × Chosen) → List (Prefix × Option Route)
+living_by records chosen = map (λ e. (e.0, route_at records (e.1).«record»)) chosen
+
+abbrev pub living_of : List (Prefix × Best) → List (Prefix × Option Route)
+living_of best = map (λ e. (e.0, Some (e.1).route)) best
 
 -- the tables of a peer, by its number from 1
 abbrev pub tables_in : RibView → ℕ → Tables
@@ -131,3 +145,4 @@ pub record IsKept (records : Records) (own : ℕ) (chosen : List (Prefix × Chos
   pub owned : AreOwned records (λ id. times_held id own chosen peers)
   pub sound : AreSound records
   pub rising : IsRising prefix_cmp chosen
+  pub pooled : ArePooled records

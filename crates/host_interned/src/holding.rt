@@ -5,7 +5,7 @@ ghost use Rattle.std.specs.List.{AllByRecursion};
 ghost use Rattle.std.specs.Map.{values_of};
 ghost use Rattle.xb_words.specs.Table.{value_at, with_value, without, IsRising};
 ghost use Rattle.xb_values.specs.Prefixes.{prefix_cmp};
-ghost use Rattle.attr_intern.specs.Pools.{record_at, released};
+ghost use Rattle.attr_intern.specs.Pools.{record_at, released, ArePooled};
 ghost use Rattle.host_interned.specs.Ribs.{given_up};
 
 use crate::Chosen;
@@ -30,6 +30,7 @@ pub(crate) fn put_sent(
     prefix: Prefix,
     id: RecordId,
 ) -> Result<(), AllocError>
+    requires pooled { ArePooled records.old }
     requires lives { IsSome (record_at records.old id) }
     requires all { AllByRecursion (λ e. IsSome (record_at records.old e.1)) sent.old }
     ensures ok { OnOk result (sent.new ≡ with_value prefix_cmp sent.old prefix id) }
@@ -37,6 +38,8 @@ pub(crate) fn put_sent(
         (records.new ≡ given_up records.old (value_at prefix_cmp sent.old prefix)) }
     ensures err { OnErr result (sent.new ≡ sent.old) }
     ensures err_records { OnErr result (records.new ≡ released records.old id) }
+    ensures rising { IsRising prefix_cmp sent.new }
+    ensures pooled { ArePooled records.new }
 {
     match sent.insert(prefix, id) {
         Ok(None) => Ok(()),
@@ -53,10 +56,12 @@ pub(crate) fn put_sent(
 
 /// Removes the id of a prefix, and gives it up.
 pub(crate) fn remove_sent(records: &mut Pool, sent: &mut Tree<RecordId>, prefix: Prefix)
+    requires pooled { ArePooled records.old }
     requires all { AllByRecursion (λ e. IsSome (record_at records.old e.1)) sent.old }
     ensures sent { sent.new ≡ without prefix_cmp sent.old prefix }
     ensures records { records.new ≡ given_up records.old (value_at prefix_cmp sent.old prefix) }
     ensures rising { IsRising prefix_cmp sent.new }
+    ensures pooled { ArePooled records.new }
 {
     if let Some(id) = sent.remove(prefix) {
         records.release(id);
@@ -70,6 +75,7 @@ pub(crate) fn put_chosen(
     prefix: Prefix,
     chosen: Chosen,
 ) -> Result<(), AllocError>
+    requires pooled { ArePooled records.old }
     requires lives { IsSome (record_at records.old chosen.«record») }
     requires all { AllByRecursion (λ e. IsSome (record_at records.old e.1.«record»)) best.old }
     ensures ok { OnOk result (best.new ≡ with_value prefix_cmp best.old prefix chosen) }
@@ -78,6 +84,7 @@ pub(crate) fn put_chosen(
     ensures err { OnErr result (best.new ≡ best.old) }
     ensures err_records { OnErr result (records.new ≡ released records.old chosen.«record») }
     ensures rising { IsRising prefix_cmp best.new }
+    ensures pooled { ArePooled records.new }
 {
     match best.insert(prefix, chosen) {
         Ok(None) => Ok(()),
@@ -94,11 +101,13 @@ pub(crate) fn put_chosen(
 
 /// The same as [`remove_sent`] of a best route.
 pub(crate) fn remove_chosen(records: &mut Pool, best: &mut Tree<Chosen>, prefix: Prefix)
+    requires pooled { ArePooled records.old }
     requires all { AllByRecursion (λ e. IsSome (record_at records.old e.1.«record»)) best.old }
     ensures best { best.new ≡ without prefix_cmp best.old prefix }
     ensures records { records.new
         ≡ given_up records.old (option_map (λ c. c.«record») (value_at prefix_cmp best.old prefix)) }
     ensures rising { IsRising prefix_cmp best.new }
+    ensures pooled { ArePooled records.new }
 {
     if let Some(chosen) = best.remove(prefix) {
         records.release(chosen.record);

@@ -1,5 +1,5 @@
 // What a peer is told, and what the routes show.
-ghost use Rattle.std.specs.Prelude.{◌≡◌, ◌<◌, ◌≤◌, ◌==◌, map, Some, true, length};
+ghost use Rattle.std.specs.Prelude.{◌≡◌, ◌<◌, ◌≤◌, ◌==◌, true, length};
 ghost use Rattle.std.specs.Option.{option_map};
 ghost use Rattle.xb_words.specs.Table.{entry_after, has_key, IsRising};
 ghost use Rattle.xb_wire.specs.declared.numbers.TheConstants.{MAX_MESSAGE};
@@ -7,13 +7,13 @@ ghost use Rattle.xb_values.specs.Prefixes.{prefix_cmp};
 ghost use Rattle.xb_domain.specs.declared.output.Packing.TheVariants.{Grouped};
 ghost use Rattle.bgp_attr.specs.declared.TheConstants.{MAX_CANONICAL};
 ghost use Rattle.bgp_attr.specs.Routes.{canon};
-ghost use Rattle.attr_intern.specs.Pools.{route_at};
 ghost use Rattle.bgp_write.specs.Pending.{form};
 ghost use Rattle.xbgp_maps.specs.Mappings.{entry_after_in, key_cmp, mapping_at};
 ghost use Rattle.xbgp_points.specs.Chains.{fault_cmp};
 ghost use Rattle.spk_model.specs.Readers.{entries_in, showing};
 ghost use Rattle.spk_model.specs.Routing.{tables_of};
 ghost use Rattle.spk_session.specs.Routed.{waiting, Tells};
+ghost use Rattle.host_interned.specs.Ribs.{living_by, living_of, sources_by, sources_of};
 ghost use Rattle.host_interned.specs.Meaning.{routing_of, setup_of, IsReady};
 
 use crate::Chosen;
@@ -64,8 +64,7 @@ impl Core {
     /// The best routes by prefix.
     pub(crate) fn chosen(&self) -> &Tree<Chosen>
         ensures value { result.now ≡ self.now.rib.chosen }
-        ensures sources { map (λ e. (e.0, (e.1).source)) self.now.rib.chosen
-            ≡ map (λ e. (e.0, (e.1).source)) self.now.rib.best }
+        ensures sources { sources_by self.now.rib.chosen ≡ sources_of self.now.rib.best }
     {
         self.rib.chosen()
     }
@@ -73,8 +72,7 @@ impl Core {
     /// The records of all routes.
     pub(crate) fn records(&self) -> &Pool
         ensures value { result.now ≡ self.now.rib.records }
-        ensures routes { map (λ e. (e.0, route_at self.now.rib.records (e.1).«record»)) self.now.rib.chosen
-            ≡ map (λ e. (e.0, Some (e.1).route)) self.now.rib.best }
+        ensures routes { living_by self.now.rib.records self.now.rib.chosen ≡ living_of self.now.rib.best }
     {
         self.rib.records()
     }

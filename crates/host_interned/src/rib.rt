@@ -1,6 +1,6 @@
 // The routes of a speaker, as ids of shared records.
-ghost use Rattle.std.specs.Prelude.{◌≡◌, ◌<◌, ◌≤◌, ◌==◌, ◌++◌, ◌↔◌, [], length, map, replicate, flat_map, Some};
-ghost use Rattle.std.specs.Prelude.{is_some, IfOk, IfSome, IsSome, IsFalse, OnOk, OnErr};
+ghost use Rattle.std.specs.Prelude.{◌≡◌, ◌<◌, ◌≤◌, ◌==◌, ◌++◌, ◌↔◌, [], length, replicate, flat_map, is_some, IfOk};
+ghost use Rattle.std.specs.Prelude.{Some, IfSome, IsSome, IsFalse, OnOk, OnErr};
 ghost use Rattle.std.specs.Bool.{OnTrue};
 ghost use Rattle.std.specs.List.{AllByRecursion};
 ghost use Rattle.std.specs.Map.{keys_of};
@@ -16,7 +16,7 @@ ghost use Rattle.attr_intern.specs.Pools.{route_at};
 ghost use Rattle.spk_model.specs.Routing.{no_tables};
 ghost use Rattle.spk_routes.specs.Sound.{IsSound};
 ghost use Rattle.host_interned.specs.Ribs.{best_from, route_from, tables_in, with_adv, with_best, with_peer, with_sent};
-ghost use Rattle.host_interned.specs.Ribs.{Shows};
+ghost use Rattle.host_interned.specs.Ribs.{living_by, living_of, sources_by, sources_of, Shows};
 
 use crate::Chosen;
 use crate::holding::{find, put_chosen, put_sent, remove_chosen, remove_sent};
@@ -93,8 +93,7 @@ impl Rib {
     pub(crate) fn chosen(&self) -> &Tree<Chosen>
         ensures value { result.now ≡ self.now.chosen }
         ensures rising { IsRising prefix_cmp result.now }
-        ensures sources { map (λ e. (e.0, (e.1).source)) self.now.chosen
-            ≡ map (λ e. (e.0, (e.1).source)) self.now.best }
+        ensures sources { sources_by self.now.chosen ≡ sources_of self.now.best }
     {
         &self.best
     }
@@ -102,8 +101,7 @@ impl Rib {
     /// The records of all routes.
     pub(crate) fn records(&self) -> &Pool
         ensures value { result.now ≡ self.now.records }
-        ensures routes { map (λ e. (e.0, route_at self.now.records (e.1).«record»)) self.now.chosen
-            ≡ map (λ e. (e.0, Some (e.1).route)) self.now.best }
+        ensures routes { living_by self.now.records self.now.chosen ≡ living_of self.now.best }
     {
         &self.records
     }
