@@ -168,7 +168,7 @@ source_has config tables prefix (first ∷ others) i side all inside is =
     )
 
 is_known : (o : Option Route) (route : Route) → o ≡ Some route → IsSome o
-is_known o route is = subst IsSome (sym is) tt
+is_known o route is = subst IsSome (sym is) refl
 
 pub one_wins : (config : Config) (old new : Kept) (tables : List Tables) (sessions : List Owned) (prefix : Prefix)
     (found : List Candidate) (i : ℕ) (side : Side) (number : ℕ)

@@ -41,10 +41,10 @@ peers-preserved c =
     let kept = c.local_of-local.ensures.kept in
     let all : Contenders Route → List Candidate = shown (λ r. r) in
     let inside : c.peers.i < length a.rib.now.tables = omega arith in
-    elim c.match-route.branch [
+    elim c.match-sent.branch [
       | in-Some+in_ok-add-2 w ↦ record {
         found = found_then a.config.now a.sessions.now a.rib.now.tables a.prefix c.peers.i
-            (all c.peers.found) (all c.match-route.found) (Some w.in-Some.route.now) kept c.requires.count
+            (all c.peers.found) (all c.match-sent.found) (Some w.in-Some.route.now) kept c.requires.count
             inside w.in-Some.ensures.value w.in-Some.ensures.sound
             c.peers.invariant.found
             (ap all w.found-is
@@ -54,7 +54,7 @@ peers-preserved c =
       }
       | in_default w ↦ record {
         found = found_then a.config.now a.sessions.now a.rib.now.tables a.prefix c.peers.i
-            (all c.peers.found) (all c.match-route.found) None kept c.requires.count
+            (all c.peers.found) (all c.match-sent.found) None kept c.requires.count
             inside w.in_default.ensures.value tt c.peers.invariant.found
             (ap all w.found-is);
       }

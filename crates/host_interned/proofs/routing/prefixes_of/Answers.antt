@@ -16,11 +16,11 @@ prefixes-preserved c =
     (keys_of (entries_after prefix_cmp c.args.rib.now.best (Some c.in-Some.prefix)))
     (keys_of c.args.rib.now.best) c.in-Some.prefix
     (walked c.args.rib.now.best c.in-Some.ensures.rising c.prefixes.after c.in-Some.prefix c.in-Some.ensures.prefix)
-    c.in_ok-push.ensures.ok c.prefixes.invariant
+    c.in_ok-push.ensures.items c.prefixes.invariant
 
 pub returns : goal.returns
 returns c =
     keys_all c.prefixes.prefixes.items (keys_of (entries_after prefix_cmp c.args.rib.now.best c.prefixes.after))
     (keys_of c.args.rib.now.best)
-    (walked_all c.args.rib.now.best c.in-None.ensures.rising c.prefixes.after c.in-None.ensures.prefix)
+    (walked_all c.args.rib.now.best c.in_default.ensures.rising c.prefixes.after c.in_default.ensures.prefix)
     c.prefixes.invariant
