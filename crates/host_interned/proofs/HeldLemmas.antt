@@ -80,7 +80,8 @@ of_value-record k (Some c) = refl
 
 module _ (own : ℕ) (cs : List (Prefix × Chosen)) (ps : List PeerTables) where
   -- a best route is written
-  pub held-with_chosen : (prefix : Prefix) (c : Chosen) (k : ℕ) → IsRising prefix_cmp (with_value prefix_cmp cs prefix c)
+  pub held-with_chosen : (prefix : Prefix) (c : Chosen) (k : ℕ)
+      → IsRising prefix_cmp (with_value prefix_cmp cs prefix c)
       → times_held k own (with_value prefix_cmp cs prefix c) ps
       + of_value (same_id k) (option_map (λ c. c.«record») (value_at prefix_cmp cs prefix))
       ≡ times_held k own cs ps + same_id k c.«record»

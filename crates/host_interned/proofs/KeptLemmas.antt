@@ -86,7 +86,8 @@ module _ (records : Records) (own : ℕ) (cs : List (Prefix × Chosen)) (ps : Li
 
   -- a route that a peer sent
   pub sent_seen : (prefix : Prefix)
-      → value_at prefix_cmp (tables_in v p).adjin prefix ≡ option_map (meant records) (value_at prefix_cmp t.sent prefix)
+      → value_at prefix_cmp (tables_in v p).adjin prefix
+      ≡ option_map (meant records) (value_at prefix_cmp t.sent prefix)
   sent_seen prefix =
       ap (λ (x : Tables). value_at prefix_cmp x.adjin prefix) peer_seen
       ∙ value_at-mapped prefix_cmp (meant records) t.sent prefix
@@ -125,7 +126,8 @@ module _ (records : Records) (own : ℕ) (cs : List (Prefix × Chosen)) (ps : Li
       ap (λ (o : Told). tables_by records (record { sent = t.sent; out = o })) out_is
       ∙ sym (ap (λ (x : Tables). record x { adv = f x.adv }) peer_seen)
 
-  pub told_same : (out : Told) (f : Sections → Sections → Sections) → out ≡ record (t.out) { told = f (t.out).adv (t.out).told }
+  pub told_same : (out : Told) (f : Sections → Sections → Sections)
+      → out ≡ record (t.out) { told = f (t.out).adv (t.out).told }
       → tables_by records (record { sent = t.sent; out = out })
       ≡ record (tables_in v p) { told = f (tables_in v p).adv (tables_in v p).told }
   told_same out f out_is =
@@ -295,12 +297,12 @@ pub puts_best : (result : Result (Unit {0}) AllocError) (old new last : Records)
     → Puts result (meant old own) (best_by old cs)
     (with_value prefix_cmp (best_by old cs) prefix (record { source = c.source; route = route }))
     (map (tables_by old) ps) (map (tables_by old) ps) last own after ps
-puts_best (Ok u) old new last own cs after ps c route prefix opened pooled ok ok_records err err_records rising last_p =
-    let w = chosen_best old new last own cs after ps c route prefix opened pooled ok ok_records rising last_p in
+puts_best (Ok u) old new last own cs after ps c route prefix opened pooled ok ok_records err err_records rising p =
+    let w = chosen_best old new last own cs after ps c route prefix opened pooled ok ok_records rising p in
     record { kept = w.kept; ok = w.shows; err = tt }
-puts_best (Err e) old new last own cs after ps c route prefix opened pooled ok ok_records err err_records rising last_p =
+puts_best (Err e) old new last own cs after ps c route prefix opened pooled ok ok_records err err_records rising p =
     let w = given_back old new last own cs ps c.«record» route opened pooled err_records
-    (subst (IsRising prefix_cmp) err rising) last_p in
+    (subst (IsRising prefix_cmp) err rising) p in
     subst (λ (l : List (Prefix × Chosen)). Puts (Err e) (meant old own) (best_by old cs)
     (with_value prefix_cmp (best_by old cs) prefix (record { source = c.source; route = route }))
     (map (tables_by old) ps) (map (tables_by old) ps) last own l ps) (sym err)
@@ -320,8 +322,8 @@ module _ (old : Records) (own : ℕ) (cs : List (Prefix × Chosen)) (ps : List P
   -- the tables that are shown with other routes of the peer
   abbrev pub with_routes : (Routes → Routes) → List Tables
   with_routes f =
-      set (map (tables_by old) ps) i
-      (record (get_or (map (tables_by old) ps) i no_tables) { adjin = f (get_or (map (tables_by old) ps) i no_tables).adjin })
+      let shown = get_or (map (tables_by old) ps) i no_tables in
+      set (map (tables_by old) ps) i (record shown { adjin = f shown.adjin })
 
   routes_set : (sent : List (Prefix × ℕ)) (f : Routes → Routes) → routes_by old sent ≡ f (routes_by old t.sent)
       → map (tables_by old) (set ps i (sending t sent)) ≡ with_routes f
@@ -471,7 +473,8 @@ pub best_is_from : (own : Route) (best : List (Prefix × Best)) (tables : List T
     → with_value prefix_cmp best prefix (record { source = source; route = route })
     ≡ with_best best prefix (best_from own tables source prefix)
 best_is_from own best tables source prefix route is =
-    sym (ap (λ (x : Option Route). with_best best prefix (option_map (λ r. record { source = source; route = r }) x)) is)
+    sym (ap (λ (x : Option Route). with_best best prefix
+    (option_map (λ r. record { source = source; route = r }) x)) is)
 
 -- ---- by what is seen of the rib
 
@@ -479,7 +482,8 @@ module _ (rs : Records) (own : ℕ) (cs : List (Prefix × Chosen)) (ps : List Pe
     (is : rib_of rs own cs ps ≡ v) (kept : IsKept rs own cs ps) where
   module _ (source : ℕ) (prefix : Prefix) (id : ℕ)
       (found : Some (route_at v.records id) ≡ option_map (λ r. Some r) (route_from v.own v.tables source prefix)) where
-    source_route : (route : Route) × (route_from v.own v.tables source prefix ≡ Some route) × (route_at rs id ≡ Some route)
+    source_route : (route : Route) × (route_from v.own v.tables source prefix ≡ Some route)
+        × (route_at rs id ≡ Some route)
     source_route =
         let w = found_route (route_from v.own v.tables source prefix) (route_at v.records id) found in
         (w.0, w.1, ap (λ (x : RibView). route_at x.records id) is ∙ w.2)
@@ -502,8 +506,8 @@ module _ (rs : Records) (own : ℕ) (cs : List (Prefix × Chosen)) (ps : List Pe
         → Puts result v.own v.best (with_best v.best prefix (best_from v.own v.tables source prefix)) v.tables v.tables
         last own after ps
     sets_best result new last after owner pooled ok ok_records err err_records rising pooled_last =
-        let puts = puts_best result rs new last own cs after ps (record { source = source; «record» = id }) (meant rs id)
-        prefix (shares rs own cs ps kept id new source_lives owner) pooled ok ok_records err err_records rising
+        let puts = puts_best result rs new last own cs after ps (record { source = source; «record» = id })
+        (meant rs id) prefix (shares rs own cs ps kept id new source_lives owner) pooled ok ok_records err err_records rising
         pooled_last in
         subst (λ (b : List (Prefix × Best)). Puts result v.own v.best b v.tables v.tables last own after ps)
         (best_is_from v.own v.best v.tables source prefix (meant rs id) source_means)
@@ -540,7 +544,8 @@ module _ (rs : Records) (own : ℕ) (cs : List (Prefix × Chosen)) (ps : List Pe
         (set ps (p - 1) (sending t sent))
     removes_sent new sent sent_is new_is pooled =
         subst (λ (x : RibView). Written x.own x.best
-        (with_sent x p (without prefix_cmp (tables_in x p).adjin prefix)) new own cs (set ps (p - 1) (sending t sent))) is
+        (with_sent x p (without prefix_cmp (tables_in x p).adjin prefix)) new own cs
+        (set ps (p - 1) (sending t sent))) is
         (removed_route rs own cs ps (p - 1) t inside at new sent prefix kept sent_is new_is pooled)
 
     module _ (id : ℕ) (route : Route) (means : IfSome (route_at rs id) (λ r. r ≡ route)) (sound : IsSound route)
@@ -558,8 +563,8 @@ module _ (rs : Records) (own : ℕ) (cs : List (Prefix × Chosen)) (ps : List Pe
           (λ k. let n = held-sent own cs ps (p - 1) t inside at k in omega (arith, n))
 
       -- a route comes in, by the result
-      pub puts_sent : (result : Result (Unit {0}) AllocError) (last : Records) (sent : List (Prefix × ℕ)) → ArePooled new
-          → OnOk result (sent ≡ with_value prefix_cmp t.sent prefix id)
+      pub puts_sent : (result : Result (Unit {0}) AllocError) (last : Records) (sent : List (Prefix × ℕ))
+          → ArePooled new → OnOk result (sent ≡ with_value prefix_cmp t.sent prefix id)
           → OnOk result (last ≡ given_up new (value_at prefix_cmp t.sent prefix)) → OnErr result (sent ≡ t.sent)
           → OnErr result (last ≡ released new id) → IsRising prefix_cmp sent → ArePooled last
           → Puts result v.own v.best v.best v.tables

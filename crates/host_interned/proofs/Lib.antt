@@ -2,10 +2,12 @@ mod MappedLemmas
 mod OwnerLemmas
 mod RibLemmas
 mod HeldLemmas
+mod LivingLemmas
 mod KeptLemmas
 mod RemovedLemmas
 mod KnownLemmas
 mod MadeLemmas
+mod EntryLemmas
 mod ShownLemmas
 mod FollowingLemmas
 mod ExportLemmas

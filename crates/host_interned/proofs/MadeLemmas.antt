@@ -13,7 +13,8 @@ use Rattle.attr_intern.specs.Pools.{Records, interned, ArePooled}
 use Rattle.attr_intern.proofs.PoolLemmas.{route_at-interned}
 use Rattle.host_interned.specs.declared.chosen.Chosen.{Chosen}
 use Rattle.host_interned.specs.declared.tables.PeerTables.{PeerTables}
-use Rattle.host_interned.specs.Ribs.{rib_of, route_or, same_id, tables_by, times_held, times_sent, AreOwned, IsKept, Shows}
+use Rattle.host_interned.specs.Ribs.{rib_of, route_or, same_id, tables_by, times_held, times_sent, AreOwned, IsKept}
+use Rattle.host_interned.specs.Ribs.{Shows}
 use Rattle.host_interned.proofs.OwnerLemmas.{owned_interned}
 use Rattle.host_interned.proofs.HeldLemmas.{sound_interned}
 
@@ -68,8 +69,8 @@ pub fresh : (none records : Records) (id : ℕ) (route : Route) (n : ℕ) (cs : 
 fresh none records id route n cs ps is none_is records_is pooled cs_is ps_is =
     let made : interned [] id route ≡ records =
     sym (records_is ∙ ap (λ (r : Records). interned r id route) none_is) in
-    subst (λ (p : List PeerTables). IsKept records id cs p × Shows route [] (replicate n no_tables) (rib_of records id cs p))
-    (sym ps_is)
+    subst (λ (p : List PeerTables). IsKept records id cs p
+    × Shows route [] (replicate n no_tables) (rib_of records id cs p)) (sym ps_is)
     (subst (λ (l : List (Prefix × Chosen)). IsKept records id l (replicate n none_sent)
     × Shows route [] (replicate n no_tables) (rib_of records id l (replicate n none_sent))) (sym cs_is)
     (subst (λ (r : Records). Fresh r id route n) made

@@ -1,10 +1,11 @@
 -- What a rib shows while the routes that a peer sent are removed one after another.
 use Rattle.std.proofs.Common.{◌≡◌, ◌≤◌, ◌<◌, ◌-◌, refl, sym, ◌∙◌, ap, subst, ℕ, List, [], ◌∷◌, suc, length, arith}
-use Rattle.std.proofs.Common.{Option, Some, None, get_or, set}
+use Rattle.std.proofs.Common.{Option, Some, None, true, false, filter, get_or, set}
+use Rattle.std.specs.Prelude.{not}
 use Rattle.std.specs.Option.{option_map}
 use Rattle.std.proofs.lemmas.Cmp.{tied_itself}
 use Rattle.std.proofs.lemmas.List.{get_or-set_same, length-set, set-get_or, set-set}
-use Rattle.xb_words.specs.Table.{entry_after, first_of, value_at, without}
+use Rattle.xb_words.specs.Table.{entry_after, first_of, has_key, value_at, without}
 use Rattle.xb_words.proofs.TableLemmas.{length-without}
 use Rattle.xb_values.specs.Prefixes.{Prefix, prefix_cmp}
 use Rattle.xb_values.proofs.PrefixLemmas.{prefix_total}
@@ -32,7 +33,8 @@ module _ (f : RibView) (p : ℕ) (least : 1 ≤ p) (most : p ≤ length f.tables
       → tables_in s p ≡ record (tables_in f p) { adjin = routes }
   sent_in s routes is =
       ap (λ (ts : List Tables). get_or ts (p - 1) no_tables) is
-      ∙ get_or-set_same f.tables (p - 1) (record (tables_in f p) { adjin = routes }) no_tables (omega (arith, least, most))
+      ∙ get_or-set_same f.tables (p - 1) (record (tables_in f p) { adjin = routes }) no_tables
+      (omega (arith, least, most))
 
   -- there are as many tables
   pub sent_count : (s : RibView) (routes : Routes) → s.tables ≡ with_sent f p routes
@@ -66,7 +68,8 @@ module _ (f : RibView) (p : ℕ) (least : 1 ≤ p) (most : p ≤ length f.tables
       (sym (ap (λ (x : Tables). x.adjin) (sent_in t other shows.tables_are))) shows
 
 -- the first route of a peer is there
-first_there : (routes : Routes) (prefix : Prefix) → Some prefix ≡ option_map (λ e. e.0) (entry_after prefix_cmp routes None)
+first_there : (routes : Routes) (prefix : Prefix)
+    → Some prefix ≡ option_map (λ e. e.0) (entry_after prefix_cmp routes None)
     → (e : Prefix × Route) × (value_at prefix_cmp routes prefix ≡ Some e.1)
 first_there [] prefix is = absurd (cc is)
 first_there (e ∷ es) prefix is =
@@ -141,3 +144,17 @@ cleared records own cs ps w v p t out is least most at shows out_is =
           ∙ ap (λ (ts : List Tables). set ts (p - 1) no_tables) shows.tables_are
           ∙ set-set v.tables (p - 1) (record (tables_in v p) { adjin = [] }) no_tables;
     }
+
+-- ---- the prefixes that a set does not have
+
+-- the first prefix of a list is one of them
+pub other_first : (set rest : List Prefix) (prefix : Prefix) → has_key prefix_cmp set prefix ≡ false
+    → filter (λ p. not (has_key prefix_cmp set p)) (prefix ∷ rest)
+    ≡ prefix ∷ filter (λ p. not (has_key prefix_cmp set p)) rest
+other_first set rest prefix is = rw is refl
+
+-- or not
+pub other_not : (set rest : List Prefix) (prefix : Prefix) → has_key prefix_cmp set prefix ≡ true
+    → filter (λ p. not (has_key prefix_cmp set p)) (prefix ∷ rest)
+    ≡ filter (λ p. not (has_key prefix_cmp set p)) rest
+other_not set rest prefix is = rw is refl

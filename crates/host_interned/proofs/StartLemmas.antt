@@ -1,6 +1,6 @@
 -- The routes before the first event.
 use Rattle.std.proofs.Common.{◌≡◌, ◌≤◌, ◌+◌, refl, sym, ◌∙◌, ap, subst, ℕ, Bool, true, List, [], ◌∷◌, drop, map}
-use Rattle.std.proofs.Common.{length, arith, Some}
+use Rattle.std.proofs.Common.{length, replicate, arith, Some}
 use Rattle.std.specs.Prelude.{if◌then◌else◌, nat_le, slice_get}
 use Rattle.std.specs.List.{AllByRecursion}
 use Rattle.std.proofs.lemmas.List.{length-map, drop_all}
@@ -21,7 +21,7 @@ use Rattle.spk_model.specs.Routing.{Chosen, Routing, no_tables}
 use Rattle.spk_model.specs.Turning.{start_routing}
 use Rattle.spk_routes.proofs.StepLemmas.{drop-at}
 use Rattle.host_interned.specs.declared.routing.Core.{Core}
-use Rattle.host_interned.specs.Ribs.{RibView}
+use Rattle.host_interned.specs.Ribs.{RibView, Shows}
 use Rattle.host_interned.specs.Starting.{with_networks, IsFirst, IsStarted}
 use Rattle.host_interned.proofs.ShownLemmas.{routing_with}
 
@@ -83,6 +83,20 @@ with_networks-sources own (p ∷ ns) n best all =
     with_networks-sources own ns n (with_value prefix_cmp best p (own_chosen own))
     (AllByRecursion-with_value prefix_cmp (λ e. e.1.source ≤ n) best p (own_chosen own)
     (omega (arith)) (λ e same here. omega (arith)) all)
+
+-- a rib before the first event, from a new one and the networks that became best
+pub is_first : (config : Config) (one two : RibView) (own : Route) (n : ℕ) (networks : List Prefix)
+    → own ≡ local_route config → n ≡ length config.peers → networks ≡ config.networks
+    → Shows own [] (replicate n no_tables) one
+    → Shows one.own (with_networks one.own one.best networks) one.tables two → IsFirst config two
+is_first config one two own n networks own_is n_is networks_is made set = record {
+  own_is = set.own_is ∙ made.own_is ∙ own_is;
+  best_is = set.best_is
+      ∙ ap (λ (r : Route). with_networks r one.best networks) (made.own_is ∙ own_is)
+      ∙ ap (λ (b : List (Prefix × Chosen)). with_networks (local_route config) b networks) made.best_is
+      ∙ ap (with_networks (local_route config) []) networks_is;
+  tables_are = set.tables_are ∙ made.tables_are ∙ ap (λ (k : ℕ). replicate k no_tables) n_is;
+}
 
 abbrev setup_with : Config → Manifest → Setup
 setup_with k m = record { config = k; manifest = m }

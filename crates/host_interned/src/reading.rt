@@ -92,7 +92,9 @@ impl Core {
             section.new ≡ showing section.old (option_map (λ e. canon (e.1).route) found) }
     {
         let prefix = self.rib.best_after(after)?;
-        let (source, best) = self.rib.best(prefix)?;
+        let Some((source, best)) = self.rib.best(prefix) else {
+            return None;
+        };
         write_section(best, section);
         Some((prefix, source))
     }

@@ -1,8 +1,9 @@
 // The routes of a speaker that was not started yet.
-ghost use Rattle.std.specs.Prelude.{◌≡◌, IfOk};
+ghost use Rattle.std.specs.Prelude.{◌≡◌, IfOk, OnOk};
 ghost use Rattle.spk_model.specs.Sources.{local_route};
 ghost use Rattle.spk_routes.specs.Sound.{IsSound};
-ghost use Rattle.host_interned.specs.Starting.{IsFirst, IsStarted};
+ghost use Rattle.host_interned.specs.Ribs.{Shows};
+ghost use Rattle.host_interned.specs.Starting.{with_networks, IsFirst, IsStarted};
 
 use crate::rib::Rib;
 use crate::routing::Core;
@@ -12,7 +13,7 @@ use bgp_attr::flags::WELL_KNOWN;
 use spk_model::Setup;
 use spk_routes::{Exporter, local_of};
 use std::alloc::{AllocError, Global};
-use xbgp_config::Config;
+use xbgp_config::{Config, Networks};
 use xbgp_points::Engine;
 use xbgp_view::Overlay;
 
@@ -42,15 +43,24 @@ fn own_overlay(alloc: Global, config: &Config) -> Result<Overlay, AllocError>
     Ok(route)
 }
 
-// The routes before the first event: the local networks, each with the speaker's own route, are best.
+// The local networks, each with the speaker's own route, become best.
+fn set_networks(rib: &mut Rib, networks: &Networks) -> Result<(), AllocError>
+    ensures { OnOk result (Shows rib.old.own (with_networks rib.old.own rib.old.best networks.now) rib.old.tables
+        rib.new) }
+{
+    'networks: for i in 0..networks.len() {
+        rib.set_best(networks.get(i), 0)?;
+    }
+    Ok(())
+}
+
+// The routes before the first event: the local networks are best.
 fn first_rib(alloc: Global, config: &Config) -> Result<Rib, AllocError>
     ensures { IfOk result (IsFirst config.now) }
 {
     let own = own_overlay(alloc, config)?;
     let mut rib = Rib::make(alloc, &own, config.peers.len())?;
-    'networks: for i in 0..config.networks.len() {
-        rib.set_best(config.networks.get(i), 0)?;
-    }
+    set_networks(&mut rib, &config.networks)?;
     Ok(rib)
 }
 

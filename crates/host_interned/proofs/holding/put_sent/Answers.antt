@@ -6,5 +6,6 @@ use Rattle.host_interned.proofs.holding.put_sent.Goals as goal
 
 pub release-requires : goal.release-requires
 release-requires c =
-    let is : value_at prefix_cmp c.args.sent.now c.args.prefix ≡ Some c.in-Ok-Some.old = cc (c.in-Ok-Some.ensures.old) in
+    let is : value_at prefix_cmp c.args.sent.now c.args.prefix ≡ Some c.in-Ok-Some.old =
+    cc (c.in-Ok-Some.ensures.old) in
     sent_lives c.args.records.now c.args.sent.now c.args.prefix c.in-Ok-Some.old c.requires.all is

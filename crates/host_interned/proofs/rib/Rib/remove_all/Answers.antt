@@ -34,4 +34,4 @@ prefixes-preserved c =
 pub returns : goal.returns
 returns c =
     all_removed c.args.self.now c.prefixes.self c.args.peer c.prefixes.rest _ c.prefixes.invariant.shows
-    c.in-None.ensures.end.0 c.prefixes.invariant.left
+    c.in_default.ensures.end.0 c.prefixes.invariant.left

@@ -16,8 +16,8 @@ pub invariant_of-self : goal.invariant_of-self
 invariant_of-self c =
     let r = c.self.inside in
     let e = c.remove_chosen.ensures in
-    (removed_best r.records c.remove_chosen.new.records r.own r.best c.remove_chosen.new.best r.peers.items c.args.prefix
-    c.self.invariant e.best e.records e.rising e.pooled).kept
+    (removed_best r.records c.remove_chosen.new.records r.own r.best c.remove_chosen.new.best r.peers.items
+    c.args.prefix c.self.invariant e.best e.records e.rising e.pooled).kept
 
 pub returns : goal.returns
 returns c =
@@ -25,5 +25,5 @@ returns c =
     let e = c.remove_chosen.ensures in
     subst (λ (v : RibView). Shows v.own (without prefix_cmp v.best c.args.prefix) v.tables
     (rib_of c.remove_chosen.new.records r.own c.remove_chosen.new.best r.peers.items)) c.self.view_is
-    (removed_best r.records c.remove_chosen.new.records r.own r.best c.remove_chosen.new.best r.peers.items c.args.prefix
-    c.self.invariant e.best e.records e.rising e.pooled).shows
+    (removed_best r.records c.remove_chosen.new.records r.own r.best c.remove_chosen.new.best r.peers.items
+    c.args.prefix c.self.invariant e.best e.records e.rising e.pooled).shows
