@@ -1,6 +1,6 @@
 -- The candidates that are gathered, the best of them, and what deciding leaves.
-use Rattle.std.proofs.Common.{◌≡◌, ◌≤◌, ◌<◌, ◌-◌, ◌+◌, refl, sym, ◌∙◌, ap, subst, ℕ, Bool, true, false, List, [], ◌∷◌}
-use Rattle.std.proofs.Common.{◌++◌, length, arith, get_or, Option, Some, None}
+use Rattle.std.proofs.Common.{◌≡◌, ◌≤◌, ◌<◌, ◌-◌, ◌+◌, refl, sym, ◌∙◌, ap, subst, ℕ, suc, Bool, true, false, List}
+use Rattle.std.proofs.Common.{[], ◌∷◌, ◌++◌, length, arith, get_or, Option, Some, None}
 use Rattle.std.specs.Prelude.{IfSome, IsSome, if◌then◌else◌, ◌==◌}
 use Rattle.std.specs.Option.{option_map}
 use Rattle.std.specs.List.{slice_get, AllByRecursion}
@@ -26,7 +26,7 @@ use Rattle.spk_model.specs.Tournaments.{choose}
 use Rattle.spk_model.specs.Routing.{Chosen, Routing, Routed, Tables, no_tables, best_of, candidates, decide, decided}
 use Rattle.spk_routes.specs.Candidates.{candidate_of, AreGood}
 use Rattle.spk_routes.specs.Sound.{IsSound}
-use Rattle.spk_routes.proofs.CandidatesLemmas.{with_one, found_more, one_more, none_good, own_good, number_peer}
+use Rattle.spk_routes.proofs.CandidatesLemmas.{with_one, found_more, one_more, none_good, own_good}
 use Rattle.host_interned.specs.Ribs.{RibView, Shows, best_from, route_from, with_best}
 use Rattle.host_interned.specs.Deciding.{sent_in, best_if, candidates_to, candidates_in, winner_of, AreFound, IsWinner}
 use Rattle.host_interned.specs.declared.routing.Core.{Core}
@@ -57,12 +57,26 @@ found_first config sessions tables prefix false found kept own l_is is = record 
   sources = subst (All (OfSource config tables prefix)) (sym is) (λ k d inside. absurd (omega (arith, inside)));
 }
 
+number_suc : (config : Config) (sessions : List Owned) (p : ℕ) → (side_of config sessions (suc p)).number ≡ suc p
+number_suc config sessions p = rw (eqb-suc-zero p, side_of) refl
+
+-- a peer's number as a party
+number_peer : (config : Config) (sessions : List Owned) (n : ℕ) → (side_of config sessions (1 + n)).number ≡ 1 + n
+number_peer config sessions n =
+    let e : suc n ≡ 1 + n = omega arith in
+    subst (λ (p : ℕ). (side_of config sessions p).number ≡ p) e (number_suc config sessions n)
+
+from_suc : (own : Route) (tables : List Tables) (prefix : Prefix) (p : ℕ)
+    → route_from own tables (suc p) prefix ≡ sent_in tables prefix (suc p)
+from_suc own tables prefix p =
+    ap (λ (b : Bool). if b then Some own else sent_in tables prefix (suc p)) (eqb-suc-zero p)
+
 -- what the source of a peer's number has is what it sent
 from_peer : (own : Route) (tables : List Tables) (prefix : Prefix) (n : ℕ)
     → route_from own tables (1 + n) prefix ≡ sent_in tables prefix (1 + n)
 from_peer own tables prefix n =
-    let apart : ((1 + n) == 0) ≡ false = eqb-suc-zero n in
-    ap (λ (b : Bool). if b then Some own else sent_in tables prefix (1 + n)) apart
+    let e : suc n ≡ 1 + n = omega arith in
+    subst (λ (p : ℕ). route_from own tables p prefix ≡ sent_in tables prefix p) e (from_suc own tables prefix n)
 
 sources_more : (config : Config) (sessions : List Owned) (tables : List Tables) (prefix : Prefix) (n : ℕ)
     (cs : List Candidate) (o : Option Route) → o ≡ sent_in tables prefix (1 + n)
@@ -154,7 +168,7 @@ source_has config tables prefix (first ∷ others) i side all inside is =
     )
 
 is_known : (o : Option Route) (route : Route) → o ≡ Some route → IsSome o
-is_known o route is = subst IsSome (sym is) tt
+is_known o route is = subst IsSome (sym is) refl
 
 pub one_wins : (config : Config) (old new : Kept) (tables : List Tables) (sessions : List Owned) (prefix : Prefix)
     (found : List Candidate) (i : ℕ) (side : Side) (number : ℕ)

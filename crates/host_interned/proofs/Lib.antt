@@ -2,6 +2,7 @@ mod MappedLemmas
 mod OwnerLemmas
 mod RibLemmas
 mod HeldLemmas
+mod LivingLemmas
 mod KeptLemmas
 mod RemovedLemmas
 mod KnownLemmas

@@ -4,7 +4,7 @@ use Rattle.std.proofs.Common.{drop, fold, flat_map, length, arith, Option, Some,
 use Rattle.std.specs.Map.{keys_of}
 use Rattle.std.specs.Option.{option_map}
 use Rattle.std.specs.Prelude.{slice_get}
-use Rattle.std.proofs.lemmas.List.{at_drop_more, drop_all}
+use Rattle.std.proofs.lemmas.List.{at_drop_more, drop_all, append_assoc, append-nil}
 use Rattle.std.proofs.lemmas.List.Sums.{fold-append}
 use Rattle.xb_words.specs.Table.{entries_after, entry_after, set_of, with_key, with_keys, IsRising}
 use Rattle.xb_words.proofs.TableLemmas.{entries_after-some, entries_after-none}
@@ -15,7 +15,9 @@ use Rattle.spk_model.specs.Turning.{known_prefixes}
 use Rattle.xb_values.proofs.PrefixLemmas.{prefix_total}
 use Rattle.spk_routes.proofs.StepLemmas.{drop-at}
 use Rattle.host_interned.specs.declared.routing.Core.{Core}
-use Rattle.host_interned.specs.Meaning.{Does, setup_of, routed}
+use Rattle.host_interned.specs.Ribs.{RibView, Shows, with_peer}
+use Rattle.host_interned.specs.Meaning.{Does, IsReady, setup_of, routed}
+use Rattle.host_interned.proofs.ShownLemmas.{changed_core, ready_with_peer, routing_shown}
 use Rattle.host_interned.proofs.FollowingLemmas.{does_same, does_then}
 
 the_key : {X : Type 0} (o : Option (Prefix × X)) (p : Prefix) → Some p ≡ option_map (λ e. e.0) o
@@ -49,6 +51,19 @@ module _ {X : Type 0} (es : List (Prefix × X)) (rising : IsRising prefix_cmp es
   walked_all after is =
       ap keys_of (entries_after-none prefix_cmp prefix_total es after
       (no_key (entry_after prefix_cmp es after) is))
+
+-- one key more of a list that is finished by others
+pub key_then : (items new left rest all : List Prefix) (p : Prefix) → left ≡ p ∷ rest → new ≡ items ++ p ∷ []
+    → items ++ left ≡ all → new ++ rest ≡ all
+key_then items new left rest all p is new_is so_far =
+    ap (λ (l : List Prefix). l ++ rest) new_is
+    ∙ append_assoc items (p ∷ []) rest
+    ∙ sym (ap (λ (l : List Prefix). items ++ l) is)
+    ∙ so_far
+
+-- all keys
+pub keys_all : (items left all : List Prefix) → left ≡ [] → items ++ left ≡ all → items ≡ all
+keys_all items left all is so_far = sym (append-nil items) ∙ sym (ap (λ (l : List Prefix). items ++ l) is) ∙ so_far
 
 -- one key more of a set that is finished by others
 pub one_key : (set new ks rest all : List Prefix) (p : Prefix) → ks ≡ p ∷ rest → new ≡ with_key prefix_cmp set p
@@ -98,6 +113,16 @@ pub known_all : (ts : List Tables) (i : ℕ) (set all : List Prefix) → length 
     → with_keys prefix_cmp set (flat_map known_of (drop i ts)) ≡ all → set ≡ all
 known_all ts i set all end so_far =
     sym (ap (λ (l : List Tables). with_keys prefix_cmp set (flat_map known_of l)) (drop_all i ts end)) ∙ so_far
+
+-- a peer has empty tables
+pub clears : (a : Core) (r : RibView) (p : ℕ) → IsReady a
+    → Shows a.rib.own a.rib.best (with_peer a.rib p no_tables) r
+    → Does (λ setup u. set_tables u p no_tables) a (changed_core a a.engine r a.received a.route a.exporter)
+clears a r p ready shows = record {
+  ready = ready_with_peer a a.engine r a.received a.route a.exporter p no_tables ready refl shows;
+  setup = refl;
+  routing = λ trace. routing_shown a.engine.engine a.rib.own a.rib.best (with_peer a.rib p no_tables) r shows;
+}
 
 -- a peer is lost
 pub loses : (a b c : Core) (sessions : List Owned) (p : ℕ) (t : Tables) (set : List Prefix)

@@ -1,7 +1,7 @@
 // The routes' half of a speaker, and the host.
-ghost use Rattle.std.specs.Prelude.{◌≡◌, map, Some};
-ghost use Rattle.attr_intern.specs.Pools.{route_at};
+ghost use Rattle.std.specs.Prelude.{◌≡◌};
 ghost use Rattle.xb_domain.specs.declared.output.Packing.TheVariants.{Grouped};
+ghost use Rattle.host_interned.specs.Ribs.{living_by, living_of, sources_by, sources_of};
 
 use crate::Chosen;
 use crate::routing::Core;
@@ -109,8 +109,7 @@ impl InternedRoutes {
     // The best routes by prefix.
     fn chosen(&self) -> &Tree<Chosen>
         ensures value { result.now ≡ self.now.chosen }
-        ensures sources { map (λ e. (e.0, (e.1).source)) result.now
-            ≡ map (λ e. (e.0, (e.1).source)) (self.now.routing).best }
+        ensures sources { sources_by self.now.chosen ≡ sources_of (self.now.routing).best }
     {
         self.core.chosen()
     }
@@ -118,8 +117,7 @@ impl InternedRoutes {
     // The records of all routes.
     fn records(&self) -> &Pool
         ensures value { result.now ≡ self.now.records }
-        ensures routes { map (λ e. (e.0, route_at result.now (e.1).«record»)) self.now.chosen
-            ≡ map (λ e. (e.0, Some (e.1).route)) (self.now.routing).best }
+        ensures routes { living_by self.now.records self.now.chosen ≡ living_of (self.now.routing).best }
     {
         self.core.records()
     }
@@ -176,18 +174,17 @@ impl Host for Interned {
 impl Interned {
     /// The best routes: for each prefix the number of the source, and the id of the record.
     pub fn routes(&self) -> &Tree<Chosen>
-        ensures { map (λ e. (e.0, (e.1).source)) result.now
-            ≡ map (λ e. (e.0, (e.1).source)) (⟦<Interned as Host>⟧.speaker self.now).routing.best }
+        ensures value { result.now ≡ self.now.sessions.routes.chosen }
+        ensures sources { sources_by result.now ≡ sources_of (⟦<Interned as Host>⟧.speaker self.now).routing.best }
     {
         self.sessions.routes().chosen()
     }
 
-    // TODO: with `ensures value { result.now ≡ self.now.routes }` at `Sessions::routes` of spk_session, `routes` says
-    // that it hands out `self.now.sessions.routes.chosen`, and this call says of the same ids:
-    //     ensures routes { map (λ e. (e.0, route_at result.now (e.1).«record»)) self.now.sessions.routes.chosen
-    //         ≡ map (λ e. (e.0, Some (e.1).route)) (⟦<Interned as Host>⟧.speaker self.now).routing.best }
     /// The records of all routes that the host keeps.
-    pub fn records(&self) -> &Pool {
+    pub fn records(&self) -> &Pool
+        ensures { living_by result.now self.now.sessions.routes.chosen
+            ≡ living_of (⟦<Interned as Host>⟧.speaker self.now).routing.best }
+    {
         self.sessions.routes().records()
     }
 }

@@ -1,4 +1,4 @@
-use Rattle.std.proofs.Common.{◌≡◌, ◌∙◌, ap, subst, ◌++◌, [], ◌∷◌, arith, ℕ, true, false, List, length, Some}
+use Rattle.std.proofs.Common.{◌≡◌, ◌<◌, ◌∙◌, ap, subst, ◌++◌, [], ◌∷◌, arith, ℕ, true, false, List, length, Some}
 use Rattle.std.proofs.Common.{None}
 use Rattle.xb_domain.specs.declared.side.Side.{Side}
 use Rattle.bgp_attr.specs.Routes.{Route}
@@ -40,11 +40,12 @@ peers-preserved c =
     let a = c.args in
     let kept = c.local_of-local.ensures.kept in
     let all : Contenders Route → List Candidate = shown (λ r. r) in
-    elim c.match-route.branch [
+    let inside : c.peers.i < length a.rib.now.tables = omega arith in
+    elim c.match-sent.branch [
       | in-Some+in_ok-add-2 w ↦ record {
         found = found_then a.config.now a.sessions.now a.rib.now.tables a.prefix c.peers.i
-            (all c.peers.found) (all c.match-route.found) (Some w.in-Some.route.now) kept c.requires.count
-            c.inside w.in-Some.ensures.value w.in-Some.ensures.sound
+            (all c.peers.found) (all c.match-sent.found) (Some w.in-Some.route.now) kept c.requires.count
+            inside w.in-Some.ensures.value w.in-Some.ensures.sound
             c.peers.invariant.found
             (ap all w.found-is
             ∙ w.in_ok-add-2.ensures.ok
@@ -53,8 +54,8 @@ peers-preserved c =
       }
       | in_default w ↦ record {
         found = found_then a.config.now a.sessions.now a.rib.now.tables a.prefix c.peers.i
-            (all c.peers.found) (all c.match-route.found) None kept c.requires.count
-            c.inside w.in_default.ensures.value tt c.peers.invariant.found
+            (all c.peers.found) (all c.match-sent.found) None kept c.requires.count
+            inside w.in_default.ensures.value tt c.peers.invariant.found
             (ap all w.found-is);
       }
     ]

@@ -9,6 +9,7 @@ use Rattle.host_interned.specs.Ribs.{meant, route_or, times_held, RibView}
 use Rattle.host_interned.proofs.MappedLemmas.{value_at-mapped}
 use Rattle.host_interned.proofs.HeldLemmas.{chosen_live, chosen_lives}
 use Rattle.host_interned.proofs.KeptLemmas.{best_of_id}
+use Rattle.host_interned.proofs.LivingLemmas.{sound_route}
 use Rattle.host_interned.proofs.rib.Rib.best.Goals as goal
 
 pub returns-in_err-chosen-clause-value : goal.returns-in_err-chosen-clause-value
@@ -36,3 +37,8 @@ returns-clause-value c =
     (sym (value_at-mapped prefix_cmp (best_of_id r.records) r.best c.args.prefix
     ∙ sym (ap (option_map (best_of_id r.records)) c.in_ok-chosen.ensures.value)
     ∙ ap (λ (x : Option Route). Some (record { source = chosen.source; route = route_or x })) c.get.ensures.route))
+
+pub returns-clause-sound : goal.returns-clause-sound
+returns-clause-sound c =
+    let r = c.self.inside in
+    sound_route r.records c.in_ok-chosen.chosen.now.«record» c.get.result.now c.self.invariant.sound c.get.ensures.route

@@ -4,6 +4,7 @@ use Rattle.bgp_attr.specs.Routes.{Route}
 use Rattle.host_interned.specs.Ribs.{meant, route_or, times_held}
 use Rattle.host_interned.proofs.HeldLemmas.{held-sent, sent_live, sent_lives}
 use Rattle.host_interned.proofs.KeptLemmas.{peer_inside, sent_seen}
+use Rattle.host_interned.proofs.LivingLemmas.{sound_route}
 use Rattle.host_interned.proofs.rib.Rib.sent.Goals as goal
 
 pub returns-in_err-id-clause-value : goal.returns-in_err-id-clause-value
@@ -32,3 +33,8 @@ returns-clause-value c =
     c.requires.least c.requires.most c.index.ensures c.args.prefix
     ∙ sym (ap (option_map (meant r.records)) c.in_ok-id.ensures.value)
     ∙ ap (λ (x : Option Route). Some (route_or x)) c.get.ensures.route)
+
+pub returns-clause-sound : goal.returns-clause-sound
+returns-clause-sound c =
+    let r = c.self.inside in
+    sound_route r.records c.in_ok-id.field-0.now c.get.result.now c.self.invariant.sound c.get.ensures.route
