@@ -67,8 +67,3 @@ module _ {K X : Type 0} (c : K → K → Ordering) (o : IsTotalOrder c) where
       subst (λ (y : K). value_at c es y ≡ Some (w.0).1) w.2 (entry_there es after w.0 rising w.1) in
       ap (option_map (of_key k)) (found_is ∙ there)
       ∙ sym (w.1 ∙ ap (λ (y : K). Some (of_key y (w.0).1)) w.2)
-
--- a walk that has no key has no entry
-pub no_entry : {K X : Type 0} (o : Option (K × X)) → None ≡ option_map (λ e. e.0) o → o ≡ None
-no_entry None is = refl
-no_entry (Some e) is = absurd (cc is)

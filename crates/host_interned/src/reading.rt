@@ -92,9 +92,7 @@ impl Core {
             section.new ≡ showing section.old (option_map (λ e. canon (e.1).route) found) }
     {
         let prefix = self.rib.best_after(after)?;
-        let Some((source, best)) = self.rib.best(prefix) else {
-            return None;
-        };
+        let (source, best) = self.rib.best(prefix)?;
         write_section(best, section);
         Some((prefix, source))
     }

@@ -2,13 +2,11 @@ use Rattle.std.proofs.Common.{◌≡◌, ◌≤◌, sym, subst, ap, ◌∙◌, �
 use Rattle.std.specs.Prelude.{not}
 use Rattle.xb_words.specs.Table.{has_key, without}
 use Rattle.xb_values.specs.Prefixes.{Prefix, prefix_cmp, prefixes}
-use Rattle.xbgp_view.specs.Views.{Routes}
 use Rattle.spk_model.specs.Routing.{without_all}
-use Rattle.host_interned.specs.Ribs.{tables_in, with_sent, RibView, Shows}
+use Rattle.host_interned.specs.Ribs.{tables_in}
 use Rattle.host_interned.proofs.RemovedLemmas.{all_removed, left_then, none_removed, removal_then, sent_count}
 use Rattle.host_interned.proofs.RemovedLemmas.{other_first, other_not}
 use Rattle.host_interned.proofs.rib.Rib.remove_others.Goals as goal
-use Rattle.host_interned.proofs.rib.Rib.remove_others.Goals.{then-not-has, else-not-has}
 
 pub prefixes-init : goal.prefixes-init
 prefixes-init c = record {
@@ -23,39 +21,35 @@ remove-requires-clause-most c =
     (sym (sent_count c.args.self.now c.args.peer c.requires.least c.requires.most c.prefixes.self
     (tables_in c.prefixes.self c.args.peer).adjin c.prefixes.invariant.shows.tables_are)) c.requires.most
 
-pub prefixes-preserved : goal.prefixes-preserved
-prefixes-preserved c =
+pub prefixes-preserved-then-not-has : goal.prefixes-preserved-then-not-has
+prefixes-preserved-then-not-has c =
     let v = c.args.self.now in
     let s = c.prefixes.self in
     let p = c.args.peer in
     let q = c.in-Some.prefix in
     let others : List Prefix → List Prefix = filter (λ p. not (has_key prefix_cmp c.args.set.now p)) in
-    let all : Routes = without_all (tables_in v p).adjin (others (prefixes c.args.octets.now)) in
-    let first : others c.prefixes.rest ≡ others (q ∷ c.next.new.self) = ap others c.in-Some.ensures.first in
-    elim c.if-not-has.branch [
-      | then-not-has w ↦
-          let step : others c.prefixes.rest ≡ q ∷ others c.next.new.self =
-          first ∙ other_first c.args.set.now c.next.new.self q (sym w.if-not-has.ensures) in
-          record {
-            shows = subst (λ (x : RibView). Shows v.own v.best (with_sent v p (tables_in x p).adjin) x) (sym w.self-is)
-                (removal_then v p c.requires.least c.requires.most s w.remove.new.self (tables_in s p).adjin
-                (without prefix_cmp (tables_in s p).adjin q) c.prefixes.invariant.shows w.remove.ensures);
-            left = subst (λ (x : RibView). without_all (tables_in x p).adjin (others c.next.new.self) ≡ all)
-                (sym w.self-is)
-                (left_then v p c.requires.least c.requires.most s w.remove.new.self q c.prefixes.invariant.shows
-                w.remove.ensures (others c.prefixes.rest) (others c.next.new.self) all step c.prefixes.invariant.left);
-          }
-      | else-not-has w ↦
-          let step : others c.prefixes.rest ≡ others c.next.new.self =
-          first ∙ other_not c.args.set.now c.next.new.self q (sym w.if-not-has.ensures) in
-          record {
-            shows = subst (λ (x : RibView). Shows v.own v.best (with_sent v p (tables_in x p).adjin) x) (sym w.self-is)
-                c.prefixes.invariant.shows;
-            left = subst (λ (x : RibView). without_all (tables_in x p).adjin (others c.next.new.self) ≡ all)
-                (sym w.self-is)
-                (sym (ap (without_all (tables_in s p).adjin) step) ∙ c.prefixes.invariant.left);
-          }
-    ]
+    let step : others c.prefixes.rest ≡ q ∷ others c.next.new.self =
+    ap others c.in-Some.ensures.first
+    ∙ other_first c.args.set.now c.next.new.self q (sym c.has.ensures ∙ c.if-not-has.true) in
+    record {
+      shows = removal_then v p c.requires.least c.requires.most s c.remove.new.self (tables_in s p).adjin
+          (without prefix_cmp (tables_in s p).adjin q) c.prefixes.invariant.shows c.remove.ensures;
+      left = left_then v p c.requires.least c.requires.most s c.remove.new.self q c.prefixes.invariant.shows
+          c.remove.ensures (others c.prefixes.rest) (others c.next.new.self) _ step c.prefixes.invariant.left;
+    }
+
+pub prefixes-preserved : goal.prefixes-preserved
+prefixes-preserved c =
+    let s = c.prefixes.self in
+    let p = c.args.peer in
+    let others : List Prefix → List Prefix = filter (λ p. not (has_key prefix_cmp c.args.set.now p)) in
+    let step : others c.prefixes.rest ≡ others c.next.new.self =
+    ap others c.in-Some.ensures.first
+    ∙ other_not c.args.set.now c.next.new.self c.in-Some.prefix (sym c.has.ensures ∙ c.if-not-has.false) in
+    record {
+      shows = c.prefixes.invariant.shows;
+      left = sym (ap (without_all (tables_in s p).adjin) step) ∙ c.prefixes.invariant.left;
+    }
 
 pub returns : goal.returns
 returns c =

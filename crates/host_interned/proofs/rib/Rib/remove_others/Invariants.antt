@@ -10,9 +10,9 @@ use Rattle.host_interned.proofs.rib.Rib.remove_others.Given as goal
 abbrev pub invariant-prefixes : goal.invariant-prefixes
 invariant-prefixes l = record {
   shows : Shows l.fn.self.own l.fn.self.best (with_sent l.fn.self l.peer (tables_in l.self l.peer).adjin) l.self;
-  left : without_all (tables_in l.self l.peer).adjin (filter (λ p. not (has_key prefix_cmp l.set p)) l.rest)
+  left : without_all (tables_in l.self l.peer).adjin (filter (λ p. not (has_key prefix_cmp l.fn.set p)) l.rest)
       ≡ without_all (tables_in l.fn.self l.peer).adjin
-      (filter (λ p. not (has_key prefix_cmp l.set p)) (prefixes l.octets));
+      (filter (λ p. not (has_key prefix_cmp l.fn.set p)) (prefixes l.octets));
 }
 
 abbrev pub decreases-prefixes : goal.decreases-prefixes
