@@ -1,15 +1,13 @@
 -- The candidates that are gathered, the best of them, and what deciding leaves.
-use Rattle.std.proofs.Common.{◌≡◌, ◌≤◌, ◌<◌, ◌-◌, ◌+◌, refl, sym, ◌∙◌, ap, subst, ℕ, suc, Bool, true, false, List}
+use Rattle.std.proofs.Common.{◌≡◌, ◌≤◌, ◌<◌, ◌+◌, refl, sym, ◌∙◌, ap, subst, ℕ, suc, Bool, true, false, List}
 use Rattle.std.proofs.Common.{[], ◌∷◌, ◌++◌, length, arith, get_or, Option, Some, None}
-use Rattle.std.specs.Prelude.{IfSome, IsSome, if◌then◌else◌, ◌==◌}
+use Rattle.std.specs.Prelude.{IfSome, IsSome, if◌then◌else◌}
 use Rattle.std.specs.Option.{option_map}
 use Rattle.std.specs.List.{slice_get, AllByRecursion}
 use Rattle.std.specs.List.{All}
-use Rattle.std.proofs.lemmas.List.{get_or_default}
 use Rattle.std.proofs.Math.Dec.{eqb-suc-zero}
 use Rattle.std.proofs.lemmas.List.Elements.{All-push}
 use Rattle.std.proofs.lemmas.Option.{slice_get-get_or}
-use Rattle.xb_words.specs.Table.{value_at, with_value, without}
 use Rattle.xb_words.proofs.TableLemmas.{AllByRecursion-with_value, AllByRecursion-without}
 use Rattle.xb_values.specs.Prefixes.{Prefix, prefix_cmp}
 use Rattle.xb_domain.specs.declared.side.Side.{Side}
@@ -21,13 +19,13 @@ use Rattle.xbgp_points.specs.Engines.{Kept}
 use Rattle.xbgp_points.specs.Points.{Engine}
 use Rattle.spk_model.specs.declared.host.Setup.{Setup}
 use Rattle.spk_model.specs.Choosing.{Candidate, Trace}
-use Rattle.spk_model.specs.Sources.{side_of, entry_of, local_route, is_network}
+use Rattle.spk_model.specs.Sources.{side_of, local_route, is_network}
 use Rattle.spk_model.specs.Tournaments.{choose}
-use Rattle.spk_model.specs.Routing.{Chosen, Routing, Routed, Tables, no_tables, best_of, candidates, decide, decided}
+use Rattle.spk_model.specs.Routing.{Chosen, Routing, Routed, Tables, best_of, candidates, decide, decided}
 use Rattle.spk_routes.specs.Candidates.{candidate_of, AreGood}
 use Rattle.spk_routes.specs.Sound.{IsSound}
 use Rattle.spk_routes.proofs.CandidatesLemmas.{with_one, found_more, one_more, none_good, own_good}
-use Rattle.host_interned.specs.Ribs.{RibView, Shows, best_from, route_from, with_best}
+use Rattle.host_interned.specs.Ribs.{RibView, Shows, route_from, with_best}
 use Rattle.host_interned.specs.Deciding.{sent_in, best_if, candidates_to, candidates_in, winner_of, AreFound, IsWinner}
 use Rattle.host_interned.specs.declared.routing.Core.{Core}
 use Rattle.host_interned.specs.Meaning.{Does, IsReady, setup_of, routed}

@@ -2,7 +2,6 @@
 use Rattle.std.proofs.Common.{◌≡◌, ◌≤◌, ◌<◌, ◌-◌, refl, sym, ◌∙◌, ap, subst, ℕ, Bool, true, false, List, ◌++◌}
 use Rattle.std.proofs.Common.{length, arith, Option, Some, None}
 use Rattle.std.specs.Prelude.{slice_index_or, if◌then◌else◌}
-use Rattle.std.specs.List.{slice_set}
 use Rattle.std.proofs.lemmas.List.{get_or_default}
 use Rattle.xb_words.specs.Table.{value_at, with_value, without}
 use Rattle.xb_words.proofs.TableLemmas.{value_at-some}
@@ -16,7 +15,7 @@ use Rattle.xbgp_points.specs.Points.{Engine}
 use Rattle.spk_model.specs.Choosing.{Trace}
 use Rattle.spk_model.specs.Sources.{session_of, is_established, is_up, is_wide, side_of}
 use Rattle.spk_model.specs.Exporting.{Exported, exported}
-use Rattle.spk_model.specs.Routing.{Routed, Tables, Chosen, no_tables, with_tables, at_tables}
+use Rattle.spk_model.specs.Routing.{Routed, Tables, Chosen, with_tables, at_tables}
 use Rattle.spk_model.specs.Routing.{set_adv, export, export_best, advertise}
 use Rattle.host_interned.specs.declared.routing.Core.{Core}
 use Rattle.host_interned.specs.Ribs.{RibView, Shows, tables_in, with_adv}

@@ -1,5 +1,5 @@
 -- What an UPDATE leaves.
-use Rattle.std.proofs.Common.{◌≡◌, ◌≤◌, ◌-◌, refl, sym, ◌∙◌, ap, subst, ℕ, Bool, true, false, List, [], ◌∷◌, ◌++◌}
+use Rattle.std.proofs.Common.{◌≡◌, ◌-◌, refl, sym, ◌∙◌, ap, subst, ℕ, Bool, true, false, List, [], ◌∷◌, ◌++◌}
 use Rattle.std.proofs.Common.{fold, filter, length, arith}
 use Rattle.std.specs.Prelude.{if◌then◌else◌, not, nat_le, slice_index_or}
 use Rattle.std.specs.List.{slice_set, list_any}

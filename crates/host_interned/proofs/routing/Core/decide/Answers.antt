@@ -1,5 +1,5 @@
-use Rattle.std.proofs.Common.{◌≡◌, ◌≤◌, ◌∙◌, sym, subst, ℕ, length, Option, Some, None}
-use Rattle.std.specs.Prelude.{IfSome, IsSome}
+use Rattle.std.proofs.Common.{◌≤◌, ◌∙◌, sym, subst, ℕ, Option, Some, None}
+use Rattle.std.specs.Prelude.{IsSome}
 use Rattle.bgp_attr.specs.Routes.{Route}
 use Rattle.host_interned.specs.Ribs.{route_from}
 use Rattle.host_interned.specs.Deciding.{IsWinner}

@@ -1,5 +1,4 @@
-use Rattle.std.proofs.Common.{◌≤◌, ◌∙◌, sym, ap, subst, refl, ℕ, length, Some, None}
-use Rattle.spk_model.specs.Routing.{Chosen}
+use Rattle.std.proofs.Common.{◌∙◌, sym, ap, refl, Some, None}
 use Rattle.host_interned.proofs.FollowingLemmas.{goes_both}
 use Rattle.host_interned.proofs.ShownLemmas.{ready_same}
 use Rattle.host_interned.proofs.ExportLemmas.{not_exported, retracted, exports, source_within}
