@@ -42,15 +42,18 @@ pub found_first : (config : Config) (sessions : List Owned) (tables : List Table
     → found ≡ (if l then candidate_of config (side_of config sessions 0) (local_route config) ∷ [] else [])
     → AreFound config sessions tables prefix 0 found
 found_first config sessions tables prefix true found kept own l_is is = record {
-  all = is ∙ ap (λ (b : Bool). (if b then candidate_of config (side_of config sessions 0) (local_route config) ∷ [] else []) ++ []) l_is;
+  all = is ∙ ap (λ (b : Bool).
+      (if b then candidate_of config (side_of config sessions 0) (local_route config) ∷ [] else []) ++ []) l_is;
   good = subst (AreGood config sessions 0) (sym is) (own_good config sessions kept own);
   sources = subst (All (OfSource config tables prefix)) (sym is)
-      (All-push (OfSource config tables prefix) [] (candidate_of config (side_of config sessions 0) (local_route config))
+      (All-push (OfSource config tables prefix) []
+      (candidate_of config (side_of config sessions 0) (local_route config))
       (λ k d inside. absurd (omega (arith, inside)))
       (ap (λ (n : ℕ). route_from (local_route config) tables n prefix) (kept.speaker.0)));
 }
 found_first config sessions tables prefix false found kept own l_is is = record {
-  all = is ∙ ap (λ (b : Bool). (if b then candidate_of config (side_of config sessions 0) (local_route config) ∷ [] else []) ++ []) l_is;
+  all = is ∙ ap (λ (b : Bool).
+      (if b then candidate_of config (side_of config sessions 0) (local_route config) ∷ [] else []) ++ []) l_is;
   good = subst (AreGood config sessions 0) (sym is) (none_good config sessions);
   sources = subst (All (OfSource config tables prefix)) (sym is) (λ k d inside. absurd (omega (arith, inside)));
 }
@@ -79,7 +82,8 @@ from_peer own tables prefix n =
 sources_more : (config : Config) (sessions : List Owned) (tables : List Tables) (prefix : Prefix) (n : ℕ)
     (cs : List Candidate) (o : Option Route) → o ≡ sent_in tables prefix (1 + n)
     → All (OfSource config tables prefix) cs
-    → All (OfSource config tables prefix) (with_one cs (option_map (candidate_of config (side_of config sessions (1 + n))) o))
+    → All (OfSource config tables prefix)
+    (with_one cs (option_map (candidate_of config (side_of config sessions (1 + n))) o))
 sources_more config sessions tables prefix n cs None is all = all
 sources_more config sessions tables prefix n cs (Some r) is all =
     All-push (OfSource config tables prefix) cs (candidate_of config (side_of config sessions (1 + n)) r) all
@@ -100,7 +104,8 @@ found_then config sessions tables prefix i found new o kept count inside o_is so
     is ∙ ap (λ (k : ℕ). with_one found (option_map (candidate_of config (side_of config sessions k)) o)) next in
     record {
       all = with_next
-          ∙ ap (λ (cs : List Candidate). with_one cs (option_map (candidate_of config (side_of config sessions (1 + i))) o))
+          ∙ ap (λ (cs : List Candidate). with_one cs
+          (option_map (candidate_of config (side_of config sessions (1 + i))) o))
           so_far.all
           ∙ ap (λ (x : Option Route). with_one (candidates_to config sessions tables prefix i)
           (option_map (candidate_of config (side_of config sessions (1 + i))) x)) there
@@ -127,7 +132,8 @@ none_wins config e tables sessions prefix [] are none = record {
 none_wins config e tables sessions prefix (c ∷ found) are none = absurd (omega (arith, none))
 
 -- the candidate at the index of the choice wins
-chosen_is : (m : Manifest) (l : Side) (e : Engine) (prefix : Prefix) (cs : List Candidate) (i : ℕ) (side : Side) (route : Route)
+chosen_is : (m : Manifest) (l : Side) (e : Engine) (prefix : Prefix) (cs : List Candidate) (i : ℕ) (side : Side)
+    (route : Route)
     → i ≡ (choose m l e prefix cs).index → i < length cs → IfSome (slice_get cs i) (λ c. side ≡ c.side)
     → IfSome (slice_get cs i) (λ c. route ≡ c.route)
     → Some (record { source = side.number; route = route }) ≡ winner_of m l e prefix cs
@@ -135,13 +141,16 @@ chosen_is m l e prefix [] i side route i_is inside side_is route_is = absurd (om
 chosen_is m l e prefix (first ∷ others) i side route i_is inside side_is route_is =
     let cs : List Candidate = first ∷ others in
     let at : slice_get cs i ≡ Some (get_or cs i first) = slice_get-get_or cs i first inside in
-    let s : side ≡ (get_or cs i first).side = subst (λ (o : Option Candidate). IfSome o (λ c. side ≡ c.side)) at side_is in
-    let r : route ≡ (get_or cs i first).route = subst (λ (o : Option Candidate). IfSome o (λ c. route ≡ c.route)) at route_is in
+    let s : side ≡ (get_or cs i first).side =
+    subst (λ (o : Option Candidate). IfSome o (λ c. side ≡ c.side)) at side_is in
+    let r : route ≡ (get_or cs i first).route =
+    subst (λ (o : Option Candidate). IfSome o (λ c. route ≡ c.route)) at route_is in
     ap (λ (x : Side). Some (record { source = x.number; route = route })) s
     ∙ ap (λ (x : Route). Some (record { source = ((get_or cs i first).side).number; route = x })) r
     ∙ ap (λ (k : ℕ). Some (best_of (get_or cs k first))) i_is
 
-number_within : (n : ℕ) (cs : List Candidate) (i : ℕ) (side : Side) → ((k : ℕ) (d : Candidate) → k < length cs → ((get_or cs k d).side).number ≤ n)
+number_within : (n : ℕ) (cs : List Candidate) (i : ℕ) (side : Side)
+    → ((k : ℕ) (d : Candidate) → k < length cs → ((get_or cs k d).side).number ≤ n)
     → i < length cs → IfSome (slice_get cs i) (λ c. side ≡ c.side) → side.number ≤ n
 number_within n [] i side all inside is = absurd (omega (arith, inside))
 number_within n (first ∷ others) i side all inside is =
@@ -159,7 +168,8 @@ source_has config tables prefix [] i side all inside is = absurd (omega (arith, 
 source_has config tables prefix (first ∷ others) i side all inside is =
     let cs : List Candidate = first ∷ others in
     let there : slice_get cs i ≡ Some (get_or cs i first) = slice_get-get_or cs i first inside in
-    let s : side ≡ (get_or cs i first).side = subst (λ (o : Option Candidate). IfSome o (λ c. side ≡ c.side)) there is in (
+    let s : side ≡ (get_or cs i first).side =
+    subst (λ (o : Option Candidate). IfSome o (λ c. side ≡ c.side)) there is in (
       (get_or cs i first).route,
       ap (λ (x : Side). route_from (local_route config) tables x.number prefix) s ∙ all i first inside,
       subst (λ (o : Option Candidate). IfSome o (λ c. (get_or cs i first).route ≡ c.route)) (sym there) refl,
@@ -190,7 +200,8 @@ one_wins config old new tables sessions prefix found i side number are count i_i
       within = subst (λ (n : ℕ). n ≤ length config.peers) (sym number_is)
           (subst (λ (n : ℕ). side.number ≤ n) count
           (number_within (length tables) found i side are.good.numbers inside side_is));
-      engine = engine ∙ ap (λ (cs : List Candidate). (choose old.manifest old.local old.engine prefix cs).engine) are.all;
+      engine = engine ∙ ap (λ (cs : List Candidate). (choose old.manifest old.local old.engine prefix cs).engine)
+          are.all;
       manifest = manifest;
       local = local;
     }
@@ -243,11 +254,13 @@ decides a e r sessions prefix o ready all wins shows =
       engine = (choose a.engine.manifest l a.engine.engine prefix cs).engine;
       tables = a.rib.tables;
     } in
-    let won : best_if a.rib.own a.rib.tables o prefix ≡ winner_of a.engine.manifest a.engine.local a.engine.engine prefix cs =
+    let won : best_if a.rib.own a.rib.tables o prefix
+    ≡ winner_of a.engine.manifest a.engine.local a.engine.engine prefix cs =
     ap (λ (own : Route). best_if own a.rib.tables o prefix) ready.own ∙ wins.best_is in
     record {
       ready = ready_shown a e r a.received a.route a.exporter
-          (with_best a.rib.best prefix (best_if a.rib.own a.rib.tables o prefix)) a.rib.tables ready wins.local shows refl
+          (with_best a.rib.best prefix (best_if a.rib.own a.rib.tables o prefix)) a.rib.tables ready wins.local shows
+          refl
           (all_sources n a.rib.best prefix (best_if a.rib.own a.rib.tables o prefix) ready.sources
           (source_of n a.rib.own a.rib.tables o prefix wins.within));
       setup = ap (λ (m : Manifest). record { config = a.config; manifest = m }) wins.manifest;

@@ -138,9 +138,11 @@ exports a e r x sessions prefix p s w b number route to from wide o ready all le
     let wide_at : wide ≡ is_wide sessions p =
     wide_is ∙ ap (λ (y : Owned). (y.session).wide)
     (session_at sessions p w least (subst (λ (n : ℕ). p ≤ n) (sym all) most) w_is) in
-    let given : gives_for a (side_of a.config sessions p) (is_wide sessions p) (side_of a.config sessions b.source) prefix
+    let given : gives_for a (side_of a.config sessions p) (is_wide sessions p)
+    (side_of a.config sessions b.source) prefix
     b.route ≡ g =
-    ap (λ (y : Side). gives_for a y (is_wide sessions p) (side_of a.config sessions b.source) prefix b.route) (sym to_is)
+    ap (λ (y : Side). gives_for a y (is_wide sessions p) (side_of a.config sessions b.source) prefix b.route)
+    (sym to_is)
     ∙ ap (λ (y : Bool). gives_for a to y (side_of a.config sessions b.source) prefix b.route) (sym wide_at)
     ∙ ap (λ (y : Side). gives_for a to wide y prefix b.route)
     (ap (side_of a.config sessions) (sym number_is) ∙ sym from_is)

@@ -77,7 +77,8 @@ module _ (a : Core) (p : ℕ) (ready : IsReady a) (least : 1 ≤ p) (most : p �
   core_tells r new out written result shows formed told wrote =
       subst (λ (x : Routing). Tells (form Grouped (tables_of (routing_of a) p).adv (tables_of (routing_of a) p).told) p
       (routing_of a) x out written result) (shown_routing r new shows)
-      (tells_tables (form Grouped (tables_in a.rib p).adv (tables_in a.rib p).told) (routing_of a) p new out written result
+      (tells_tables (form Grouped (tables_in a.rib p).adv (tables_in a.rib p).told)
+      (routing_of a) p new out written result
       formed told wrote)
 
 -- the keys of a map rise

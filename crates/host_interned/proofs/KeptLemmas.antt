@@ -507,7 +507,8 @@ module _ (rs : Records) (own : ℕ) (cs : List (Prefix × Chosen)) (ps : List Pe
         last own after ps
     sets_best result new last after owner pooled ok ok_records err err_records rising pooled_last =
         let puts = puts_best result rs new last own cs after ps (record { source = source; «record» = id })
-        (meant rs id) prefix (shares rs own cs ps kept id new source_lives owner) pooled ok ok_records err err_records rising
+        (meant rs id) prefix (shares rs own cs ps kept id new source_lives owner) pooled ok ok_records err err_records
+        rising
         pooled_last in
         subst (λ (b : List (Prefix × Best)). Puts result v.own v.best b v.tables v.tables last own after ps)
         (best_is_from v.own v.best v.tables source prefix (meant rs id) source_means)
