@@ -1,15 +1,13 @@
 -- The candidates that are gathered, the best of them, and what deciding leaves.
-use Rattle.std.proofs.Common.{◌≡◌, ◌≤◌, ◌<◌, ◌-◌, ◌+◌, refl, sym, ◌∙◌, ap, subst, ℕ, suc, Bool, true, false, List}
+use Rattle.std.proofs.Common.{◌≡◌, ◌≤◌, ◌<◌, ◌+◌, refl, sym, ◌∙◌, ap, subst, ℕ, suc, Bool, true, false, List}
 use Rattle.std.proofs.Common.{[], ◌∷◌, ◌++◌, length, arith, get_or, Option, Some, None}
-use Rattle.std.specs.Prelude.{IfSome, IsSome, if◌then◌else◌, ◌==◌}
+use Rattle.std.specs.Prelude.{IfSome, IsSome, if◌then◌else◌}
 use Rattle.std.specs.Option.{option_map}
 use Rattle.std.specs.List.{slice_get, AllByRecursion}
 use Rattle.std.specs.List.{All}
-use Rattle.std.proofs.lemmas.List.{get_or_default}
 use Rattle.std.proofs.Math.Dec.{eqb-suc-zero}
 use Rattle.std.proofs.lemmas.List.Elements.{All-push}
 use Rattle.std.proofs.lemmas.Option.{slice_get-get_or}
-use Rattle.xb_words.specs.Table.{value_at, with_value, without}
 use Rattle.xb_words.proofs.TableLemmas.{AllByRecursion-with_value, AllByRecursion-without}
 use Rattle.xb_values.specs.Prefixes.{Prefix, prefix_cmp}
 use Rattle.xb_domain.specs.declared.side.Side.{Side}
@@ -21,13 +19,13 @@ use Rattle.xbgp_points.specs.Engines.{Kept}
 use Rattle.xbgp_points.specs.Points.{Engine}
 use Rattle.spk_model.specs.declared.host.Setup.{Setup}
 use Rattle.spk_model.specs.Choosing.{Candidate, Trace}
-use Rattle.spk_model.specs.Sources.{side_of, entry_of, local_route, is_network}
+use Rattle.spk_model.specs.Sources.{side_of, local_route, is_network}
 use Rattle.spk_model.specs.Tournaments.{choose}
-use Rattle.spk_model.specs.Routing.{Chosen, Routing, Routed, Tables, no_tables, best_of, candidates, decide, decided}
+use Rattle.spk_model.specs.Routing.{Chosen, Routing, Routed, Tables, best_of, candidates, decide, decided}
 use Rattle.spk_routes.specs.Candidates.{candidate_of, AreGood}
 use Rattle.spk_routes.specs.Sound.{IsSound}
 use Rattle.spk_routes.proofs.CandidatesLemmas.{with_one, found_more, one_more, none_good, own_good}
-use Rattle.host_interned.specs.Ribs.{RibView, Shows, best_from, route_from, with_best}
+use Rattle.host_interned.specs.Ribs.{RibView, Shows, route_from, with_best}
 use Rattle.host_interned.specs.Deciding.{sent_in, best_if, candidates_to, candidates_in, winner_of, AreFound, IsWinner}
 use Rattle.host_interned.specs.declared.routing.Core.{Core}
 use Rattle.host_interned.specs.Meaning.{Does, IsReady, setup_of, routed}
@@ -44,15 +42,18 @@ pub found_first : (config : Config) (sessions : List Owned) (tables : List Table
     → found ≡ (if l then candidate_of config (side_of config sessions 0) (local_route config) ∷ [] else [])
     → AreFound config sessions tables prefix 0 found
 found_first config sessions tables prefix true found kept own l_is is = record {
-  all = is ∙ ap (λ (b : Bool). (if b then candidate_of config (side_of config sessions 0) (local_route config) ∷ [] else []) ++ []) l_is;
+  all = is ∙ ap (λ (b : Bool).
+      (if b then candidate_of config (side_of config sessions 0) (local_route config) ∷ [] else []) ++ []) l_is;
   good = subst (AreGood config sessions 0) (sym is) (own_good config sessions kept own);
   sources = subst (All (OfSource config tables prefix)) (sym is)
-      (All-push (OfSource config tables prefix) [] (candidate_of config (side_of config sessions 0) (local_route config))
+      (All-push (OfSource config tables prefix) []
+      (candidate_of config (side_of config sessions 0) (local_route config))
       (λ k d inside. absurd (omega (arith, inside)))
       (ap (λ (n : ℕ). route_from (local_route config) tables n prefix) (kept.speaker.0)));
 }
 found_first config sessions tables prefix false found kept own l_is is = record {
-  all = is ∙ ap (λ (b : Bool). (if b then candidate_of config (side_of config sessions 0) (local_route config) ∷ [] else []) ++ []) l_is;
+  all = is ∙ ap (λ (b : Bool).
+      (if b then candidate_of config (side_of config sessions 0) (local_route config) ∷ [] else []) ++ []) l_is;
   good = subst (AreGood config sessions 0) (sym is) (none_good config sessions);
   sources = subst (All (OfSource config tables prefix)) (sym is) (λ k d inside. absurd (omega (arith, inside)));
 }
@@ -81,7 +82,8 @@ from_peer own tables prefix n =
 sources_more : (config : Config) (sessions : List Owned) (tables : List Tables) (prefix : Prefix) (n : ℕ)
     (cs : List Candidate) (o : Option Route) → o ≡ sent_in tables prefix (1 + n)
     → All (OfSource config tables prefix) cs
-    → All (OfSource config tables prefix) (with_one cs (option_map (candidate_of config (side_of config sessions (1 + n))) o))
+    → All (OfSource config tables prefix)
+    (with_one cs (option_map (candidate_of config (side_of config sessions (1 + n))) o))
 sources_more config sessions tables prefix n cs None is all = all
 sources_more config sessions tables prefix n cs (Some r) is all =
     All-push (OfSource config tables prefix) cs (candidate_of config (side_of config sessions (1 + n)) r) all
@@ -102,7 +104,8 @@ found_then config sessions tables prefix i found new o kept count inside o_is so
     is ∙ ap (λ (k : ℕ). with_one found (option_map (candidate_of config (side_of config sessions k)) o)) next in
     record {
       all = with_next
-          ∙ ap (λ (cs : List Candidate). with_one cs (option_map (candidate_of config (side_of config sessions (1 + i))) o))
+          ∙ ap (λ (cs : List Candidate). with_one cs
+          (option_map (candidate_of config (side_of config sessions (1 + i))) o))
           so_far.all
           ∙ ap (λ (x : Option Route). with_one (candidates_to config sessions tables prefix i)
           (option_map (candidate_of config (side_of config sessions (1 + i))) x)) there
@@ -129,7 +132,8 @@ none_wins config e tables sessions prefix [] are none = record {
 none_wins config e tables sessions prefix (c ∷ found) are none = absurd (omega (arith, none))
 
 -- the candidate at the index of the choice wins
-chosen_is : (m : Manifest) (l : Side) (e : Engine) (prefix : Prefix) (cs : List Candidate) (i : ℕ) (side : Side) (route : Route)
+chosen_is : (m : Manifest) (l : Side) (e : Engine) (prefix : Prefix) (cs : List Candidate) (i : ℕ) (side : Side)
+    (route : Route)
     → i ≡ (choose m l e prefix cs).index → i < length cs → IfSome (slice_get cs i) (λ c. side ≡ c.side)
     → IfSome (slice_get cs i) (λ c. route ≡ c.route)
     → Some (record { source = side.number; route = route }) ≡ winner_of m l e prefix cs
@@ -137,13 +141,16 @@ chosen_is m l e prefix [] i side route i_is inside side_is route_is = absurd (om
 chosen_is m l e prefix (first ∷ others) i side route i_is inside side_is route_is =
     let cs : List Candidate = first ∷ others in
     let at : slice_get cs i ≡ Some (get_or cs i first) = slice_get-get_or cs i first inside in
-    let s : side ≡ (get_or cs i first).side = subst (λ (o : Option Candidate). IfSome o (λ c. side ≡ c.side)) at side_is in
-    let r : route ≡ (get_or cs i first).route = subst (λ (o : Option Candidate). IfSome o (λ c. route ≡ c.route)) at route_is in
+    let s : side ≡ (get_or cs i first).side =
+    subst (λ (o : Option Candidate). IfSome o (λ c. side ≡ c.side)) at side_is in
+    let r : route ≡ (get_or cs i first).route =
+    subst (λ (o : Option Candidate). IfSome o (λ c. route ≡ c.route)) at route_is in
     ap (λ (x : Side). Some (record { source = x.number; route = route })) s
     ∙ ap (λ (x : Route). Some (record { source = ((get_or cs i first).side).number; route = x })) r
     ∙ ap (λ (k : ℕ). Some (best_of (get_or cs k first))) i_is
 
-number_within : (n : ℕ) (cs : List Candidate) (i : ℕ) (side : Side) → ((k : ℕ) (d : Candidate) → k < length cs → ((get_or cs k d).side).number ≤ n)
+number_within : (n : ℕ) (cs : List Candidate) (i : ℕ) (side : Side)
+    → ((k : ℕ) (d : Candidate) → k < length cs → ((get_or cs k d).side).number ≤ n)
     → i < length cs → IfSome (slice_get cs i) (λ c. side ≡ c.side) → side.number ≤ n
 number_within n [] i side all inside is = absurd (omega (arith, inside))
 number_within n (first ∷ others) i side all inside is =
@@ -161,7 +168,8 @@ source_has config tables prefix [] i side all inside is = absurd (omega (arith, 
 source_has config tables prefix (first ∷ others) i side all inside is =
     let cs : List Candidate = first ∷ others in
     let there : slice_get cs i ≡ Some (get_or cs i first) = slice_get-get_or cs i first inside in
-    let s : side ≡ (get_or cs i first).side = subst (λ (o : Option Candidate). IfSome o (λ c. side ≡ c.side)) there is in (
+    let s : side ≡ (get_or cs i first).side =
+    subst (λ (o : Option Candidate). IfSome o (λ c. side ≡ c.side)) there is in (
       (get_or cs i first).route,
       ap (λ (x : Side). route_from (local_route config) tables x.number prefix) s ∙ all i first inside,
       subst (λ (o : Option Candidate). IfSome o (λ c. (get_or cs i first).route ≡ c.route)) (sym there) refl,
@@ -192,7 +200,8 @@ one_wins config old new tables sessions prefix found i side number are count i_i
       within = subst (λ (n : ℕ). n ≤ length config.peers) (sym number_is)
           (subst (λ (n : ℕ). side.number ≤ n) count
           (number_within (length tables) found i side are.good.numbers inside side_is));
-      engine = engine ∙ ap (λ (cs : List Candidate). (choose old.manifest old.local old.engine prefix cs).engine) are.all;
+      engine = engine ∙ ap (λ (cs : List Candidate). (choose old.manifest old.local old.engine prefix cs).engine)
+          are.all;
       manifest = manifest;
       local = local;
     }
@@ -245,11 +254,13 @@ decides a e r sessions prefix o ready all wins shows =
       engine = (choose a.engine.manifest l a.engine.engine prefix cs).engine;
       tables = a.rib.tables;
     } in
-    let won : best_if a.rib.own a.rib.tables o prefix ≡ winner_of a.engine.manifest a.engine.local a.engine.engine prefix cs =
+    let won : best_if a.rib.own a.rib.tables o prefix
+    ≡ winner_of a.engine.manifest a.engine.local a.engine.engine prefix cs =
     ap (λ (own : Route). best_if own a.rib.tables o prefix) ready.own ∙ wins.best_is in
     record {
       ready = ready_shown a e r a.received a.route a.exporter
-          (with_best a.rib.best prefix (best_if a.rib.own a.rib.tables o prefix)) a.rib.tables ready wins.local shows refl
+          (with_best a.rib.best prefix (best_if a.rib.own a.rib.tables o prefix)) a.rib.tables ready wins.local shows
+          refl
           (all_sources n a.rib.best prefix (best_if a.rib.own a.rib.tables o prefix) ready.sources
           (source_of n a.rib.own a.rib.tables o prefix wins.within));
       setup = ap (λ (m : Manifest). record { config = a.config; manifest = m }) wins.manifest;

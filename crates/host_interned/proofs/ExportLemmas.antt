@@ -2,7 +2,6 @@
 use Rattle.std.proofs.Common.{◌≡◌, ◌≤◌, ◌<◌, ◌-◌, refl, sym, ◌∙◌, ap, subst, ℕ, Bool, true, false, List, ◌++◌}
 use Rattle.std.proofs.Common.{length, arith, Option, Some, None}
 use Rattle.std.specs.Prelude.{slice_index_or, if◌then◌else◌}
-use Rattle.std.specs.List.{slice_set}
 use Rattle.std.proofs.lemmas.List.{get_or_default}
 use Rattle.xb_words.specs.Table.{value_at, with_value, without}
 use Rattle.xb_words.proofs.TableLemmas.{value_at-some}
@@ -16,7 +15,7 @@ use Rattle.xbgp_points.specs.Points.{Engine}
 use Rattle.spk_model.specs.Choosing.{Trace}
 use Rattle.spk_model.specs.Sources.{session_of, is_established, is_up, is_wide, side_of}
 use Rattle.spk_model.specs.Exporting.{Exported, exported}
-use Rattle.spk_model.specs.Routing.{Routed, Tables, Chosen, no_tables, with_tables, at_tables}
+use Rattle.spk_model.specs.Routing.{Routed, Tables, Chosen, with_tables, at_tables}
 use Rattle.spk_model.specs.Routing.{set_adv, export, export_best, advertise}
 use Rattle.host_interned.specs.declared.routing.Core.{Core}
 use Rattle.host_interned.specs.Ribs.{RibView, Shows, tables_in, with_adv}
@@ -139,9 +138,11 @@ exports a e r x sessions prefix p s w b number route to from wide o ready all le
     let wide_at : wide ≡ is_wide sessions p =
     wide_is ∙ ap (λ (y : Owned). (y.session).wide)
     (session_at sessions p w least (subst (λ (n : ℕ). p ≤ n) (sym all) most) w_is) in
-    let given : gives_for a (side_of a.config sessions p) (is_wide sessions p) (side_of a.config sessions b.source) prefix
+    let given : gives_for a (side_of a.config sessions p) (is_wide sessions p)
+    (side_of a.config sessions b.source) prefix
     b.route ≡ g =
-    ap (λ (y : Side). gives_for a y (is_wide sessions p) (side_of a.config sessions b.source) prefix b.route) (sym to_is)
+    ap (λ (y : Side). gives_for a y (is_wide sessions p) (side_of a.config sessions b.source) prefix b.route)
+    (sym to_is)
     ∙ ap (λ (y : Bool). gives_for a to y (side_of a.config sessions b.source) prefix b.route) (sym wide_at)
     ∙ ap (λ (y : Side). gives_for a to wide y prefix b.route)
     (ap (side_of a.config sessions) (sym number_is) ∙ sym from_is)

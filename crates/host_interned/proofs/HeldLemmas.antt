@@ -1,5 +1,5 @@
 -- How often the ids of a rib are held once a table changes, and what holds of the records when an owner gives up.
-use Rattle.std.proofs.Common.{◌≡◌, ◌≢◌, ◌≤◌, ◌<◌, ◌+◌, ◌-◌, refl, sym, ◌∙◌, ap, subst, ℕ, List, [], ◌∷◌, arith}
+use Rattle.std.proofs.Common.{◌≡◌, ◌≤◌, ◌<◌, ◌+◌, ◌-◌, refl, sym, ◌∙◌, ap, subst, ℕ, List, [], ◌∷◌, arith}
 use Rattle.std.proofs.Common.{inl, inr, Option, Some, None, get_or, set, length}
 use Rattle.std.specs.Prelude.{IfSome, IsSome}
 use Rattle.std.specs.Cmp.{IsTotalOrder}
@@ -22,7 +22,7 @@ use Rattle.attr_intern.proofs.LookupLemmas.{by_ordering}
 use Rattle.attr_intern.proofs.PoolLemmas.{one_fewer-most, one_fewer-one, one_fewer-more, route_at-interned}
 use Rattle.host_interned.specs.declared.chosen.Chosen.{Chosen}
 use Rattle.host_interned.specs.declared.tables.PeerTables.{PeerTables}
-use Rattle.host_interned.specs.Ribs.{given_up, meant, route_or, same_id, times_chosen, times_held, times_sent}
+use Rattle.host_interned.specs.Ribs.{given_up, route_or, same_id, times_chosen, times_held, times_sent}
 use Rattle.host_interned.specs.Ribs.{AreOwned, AreSound}
 use Rattle.host_interned.proofs.OwnerLemmas.{lives, one_owner_more, owned_released, record_at-interned}
 use Rattle.host_interned.proofs.OwnerLemmas.{record_at-interned-other, record_at-released-other, record_at-with_record}

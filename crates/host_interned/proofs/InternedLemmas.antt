@@ -1,24 +1,21 @@
 -- The routes' half as the sessions' half sees it.
-use Rattle.std.proofs.Common.{◌≡◌, sym, ◌∙◌, ap, subst, ℕ, ◌≤◌, ◌<◌, ◌-◌, List, length, arith, Vec}
+use Rattle.std.proofs.Common.{◌≡◌, sym, ◌∙◌, ap, subst, ℕ, ◌≤◌, ◌-◌, List, length}
 use Rattle.std.proofs.Common.{Bool, Option, Some, None}
-use Rattle.std.specs.Prelude.{Result, Ok, Err, IfSome, OnOk, is_some, slice_index_or}
-use Rattle.std.specs.List.{slice_set}
+use Rattle.std.specs.Prelude.{Result, Ok, Err, IfSome, OnOk, is_some}
 use Rattle.std.specs.List.Sorted.{IsStrictlySortedBy}
 use Rattle.std.specs.declared.alloc.AllocError.{AllocError}
-use Rattle.std.specs.declared.alloc.Global.{Global}
-use Rattle.std.proofs.lemmas.List.{set-get_or, get_or-set_same}
-use Rattle.std.proofs.Math.ListN.{length-set}
+use Rattle.std.proofs.lemmas.List.{set-get_or}
 use Rattle.xb_domain.specs.declared.output.Packing.TheVariants.{Grouped}
 use Rattle.xb_values.specs.Buffers.{Buffer}
 use Rattle.xb_words.specs.Table.{IsRising}
-use Rattle.bgp_write.specs.Pending.{Formed, form, pending}
+use Rattle.bgp_write.specs.Pending.{Formed, form}
 use Rattle.bgp_write.specs.Written.{Replaces}
 use Rattle.out_grouped.specs.Told.{told_after, written_after}
 use Rattle.xbgp_maps.specs.Mappings.{Mapping, IsMapping, key_cmp}
 use Rattle.spk_model.specs.declared.host.Setup.{Setup}
 use Rattle.spk_model.specs.Readers.{entries_in}
 use Rattle.spk_model.specs.Routing.{Routing, Routed, Tables, no_tables, tables_of, with_tables}
-use Rattle.spk_session.specs.Routed.{waiting, Reroutes, Tells}
+use Rattle.spk_session.specs.Routed.{Reroutes, Tells}
 use Rattle.host_interned.specs.declared.routing.Core.{Core}
 use Rattle.host_interned.specs.Ribs.{RibView, Shows, tables_in, with_peer}
 use Rattle.host_interned.specs.Meaning.{Goes, IsReady, Seen, seen_of, setup_of, routing_of}
@@ -80,7 +77,8 @@ module _ (a : Core) (p : ℕ) (ready : IsReady a) (least : 1 ≤ p) (most : p �
   core_tells r new out written result shows formed told wrote =
       subst (λ (x : Routing). Tells (form Grouped (tables_of (routing_of a) p).adv (tables_of (routing_of a) p).told) p
       (routing_of a) x out written result) (shown_routing r new shows)
-      (tells_tables (form Grouped (tables_in a.rib p).adv (tables_in a.rib p).told) (routing_of a) p new out written result
+      (tells_tables (form Grouped (tables_in a.rib p).adv (tables_in a.rib p).told)
+      (routing_of a) p new out written result
       formed told wrote)
 
 -- the keys of a map rise

@@ -1,12 +1,12 @@
 -- What a rib keeps and shows once its tables change.
-use Rattle.std.proofs.Common.{◌≡◌, ◌≢◌, ◌≤◌, ◌<◌, ◌+◌, ◌-◌, ◌==◌, refl, sym, ◌∙◌, ap, subst, ℕ, List, [], ◌∷◌, map}
+use Rattle.std.proofs.Common.{◌≡◌, ◌≢◌, ◌≤◌, ◌<◌, ◌+◌, ◌-◌, refl, sym, ◌∙◌, ap, subst, ℕ, List, [], ◌∷◌, map}
 use Rattle.std.proofs.Common.{arith, inl, inr, Option, Some, None, get_or, set, length}
-use Rattle.std.specs.Prelude.{Result, Ok, Err, IfSome, IsSome, OnOk, OnErr, if◌then◌else◌}
+use Rattle.std.specs.Prelude.{Result, Ok, Err, IfSome, IsSome, OnOk, OnErr}
 use Rattle.std.specs.Option.{option_map}
-use Rattle.std.specs.List.{slice_index_or, slice_set, AllByRecursion}
+use Rattle.std.specs.List.{slice_index_or, AllByRecursion}
 use Rattle.std.specs.declared.alloc.AllocError.{AllocError}
 use Rattle.std.proofs.lemmas.Bool.Decides.{eqb_tells}
-use Rattle.std.proofs.lemmas.List.{get_or-map, get_or-set_same, length-map, map-set, set-get_or, set-set}
+use Rattle.std.proofs.lemmas.List.{get_or-map, get_or-set_same, length-map, map-set, set-get_or}
 use Rattle.xb_words.specs.Table.{value_at, with_value, without, IsRising}
 use Rattle.xb_values.specs.Prefixes.{Prefix, Sections, prefix_cmp}
 use Rattle.bgp_attr.specs.Routes.{Route}
@@ -26,7 +26,7 @@ use Rattle.host_interned.specs.Ribs.{IsKept, RibView, Shows}
 use Rattle.host_interned.proofs.MappedLemmas.{mapped-with_value, mapped-without, value_at-mapped}
 use Rattle.host_interned.proofs.OwnerLemmas.{lives, owned_interned}
 use Rattle.host_interned.proofs.RibLemmas.{shows_same}
-use Rattle.host_interned.proofs.HeldLemmas.{chosen_live, gives_up, held-sent, held-set, held-with_chosen, of_value}
+use Rattle.host_interned.proofs.HeldLemmas.{gives_up, held-sent, held-set, held-with_chosen, of_value}
 use Rattle.host_interned.proofs.HeldLemmas.{held-without_chosen, living_means, route_at-alive, sent_live, sent_lives}
 use Rattle.host_interned.proofs.HeldLemmas.{sound_interned, sum-with_value, sum-without, Changed}
 use Rattle.xb_values.proofs.PrefixLemmas.{prefix_total}
@@ -507,7 +507,8 @@ module _ (rs : Records) (own : ℕ) (cs : List (Prefix × Chosen)) (ps : List Pe
         last own after ps
     sets_best result new last after owner pooled ok ok_records err err_records rising pooled_last =
         let puts = puts_best result rs new last own cs after ps (record { source = source; «record» = id })
-        (meant rs id) prefix (shares rs own cs ps kept id new source_lives owner) pooled ok ok_records err err_records rising
+        (meant rs id) prefix (shares rs own cs ps kept id new source_lives owner) pooled ok ok_records err err_records
+        rising
         pooled_last in
         subst (λ (b : List (Prefix × Best)). Puts result v.own v.best b v.tables v.tables last own after ps)
         (best_is_from v.own v.best v.tables source prefix (meant rs id) source_means)

@@ -6,7 +6,6 @@ use Rattle.std.proofs.lemmas.List.{at_drop_more, drop_all}
 use Rattle.std.proofs.lemmas.List.Sums.{fold-append}
 use Rattle.xb_words.specs.Table.{with_key, with_keys}
 use Rattle.xb_values.specs.Prefixes.{Prefix, prefix_cmp}
-use Rattle.bgp_attr.specs.Routes.{Route}
 use Rattle.spk_model.specs.Routing.{Tables}
 use Rattle.attr_intern.specs.Pools.{Records}
 use Rattle.host_interned.specs.declared.tables.PeerTables.{PeerTables}

@@ -1,5 +1,5 @@
 -- A rib without best routes, whose peers sent nothing.
-use Rattle.std.proofs.Common.{◌≡◌, ◌≤◌, ◌+◌, refl, sym, ◌∙◌, ap, subst, ℕ, suc, zero, List, [], ◌∷◌, map, replicate}
+use Rattle.std.proofs.Common.{◌≡◌, refl, sym, ◌∙◌, ap, subst, ℕ, suc, zero, List, [], ◌∷◌, map, replicate}
 use Rattle.std.proofs.Common.{arith}
 use Rattle.std.specs.List.{sum_by}
 use Rattle.std.specs.List.Sorted.{IsStrictlySortedBy}
@@ -13,7 +13,7 @@ use Rattle.attr_intern.specs.Pools.{Records, interned, ArePooled}
 use Rattle.attr_intern.proofs.PoolLemmas.{route_at-interned}
 use Rattle.host_interned.specs.declared.chosen.Chosen.{Chosen}
 use Rattle.host_interned.specs.declared.tables.PeerTables.{PeerTables}
-use Rattle.host_interned.specs.Ribs.{rib_of, route_or, same_id, tables_by, times_held, times_sent, AreOwned, IsKept}
+use Rattle.host_interned.specs.Ribs.{rib_of, route_or, tables_by, times_sent, IsKept}
 use Rattle.host_interned.specs.Ribs.{Shows}
 use Rattle.host_interned.proofs.OwnerLemmas.{owned_interned}
 use Rattle.host_interned.proofs.HeldLemmas.{sound_interned}

@@ -1,8 +1,8 @@
 -- Owners of records, and what ids mean, when an id is interned or given up.
-use Rattle.std.proofs.Common.{◌≡◌, ◌≢◌, ◌≤◌, ◌<◌, ◌+◌, ◌-◌, refl, sym, ◌∙◌, ap, subst, ℕ, List, [], ◌∷◌, map, arith}
+use Rattle.std.proofs.Common.{◌≡◌, ◌≢◌, ◌≤◌, ◌<◌, ◌+◌, ◌-◌, refl, sym, ◌∙◌, ap, ℕ, List, [], ◌∷◌, arith}
 use Rattle.std.specs.Prelude.{min}
-use Rattle.std.proofs.Common.{inl, inr, Option, Some, None, true, false, cond}
-use Rattle.std.specs.Prelude.{◌==◌, IfSome, IsSome, if◌then◌else◌}
+use Rattle.std.proofs.Common.{inl, inr, Option, Some, None, cond}
+use Rattle.std.specs.Prelude.{IsSome}
 use Rattle.std.specs.Option.{option_map}
 use Rattle.std.specs.List.{AllByRecursion}
 use Rattle.std.specs.Ordering.{nat_cmp, is_eq}

@@ -1,11 +1,11 @@
 -- What a rib shows while the routes that a peer sent are removed one after another.
-use Rattle.std.proofs.Common.{◌≡◌, ◌≤◌, ◌<◌, ◌-◌, refl, sym, ◌∙◌, ap, subst, ℕ, List, [], ◌∷◌, suc, length, arith}
-use Rattle.std.proofs.Common.{Option, Some, None, true, false, filter, get_or, set}
+use Rattle.std.proofs.Common.{◌≡◌, ◌≤◌, ◌<◌, ◌-◌, refl, sym, ◌∙◌, ap, subst, ℕ, List, [], ◌∷◌, length, arith}
+use Rattle.std.proofs.Common.{Some, None, true, false, filter, get_or, set}
 use Rattle.std.specs.Prelude.{not}
 use Rattle.std.specs.Option.{option_map}
 use Rattle.std.proofs.lemmas.Cmp.{tied_itself}
 use Rattle.std.proofs.lemmas.List.{get_or-set_same, length-set, set-get_or, set-set}
-use Rattle.xb_words.specs.Table.{entry_after, first_of, has_key, value_at, without}
+use Rattle.xb_words.specs.Table.{entry_after, has_key, value_at, without}
 use Rattle.xb_words.proofs.TableLemmas.{length-without}
 use Rattle.xb_values.specs.Prefixes.{Prefix, prefix_cmp}
 use Rattle.xb_values.proofs.PrefixLemmas.{prefix_total}

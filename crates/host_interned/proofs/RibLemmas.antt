@@ -1,20 +1,17 @@
 -- What a rib shows if its records change, and the ids that it holds mean the same.
-use Rattle.std.proofs.Common.{◌≡◌, ◌≤◌, ◌+◌, refl, sym, ◌∙◌, ap, subst, ℕ, List, [], ◌∷◌, map, arith, inl, inr}
-use Rattle.std.specs.Prelude.{◌==◌, if◌then◌else◌}
+use Rattle.std.proofs.Common.{◌≡◌, ◌≤◌, refl, ◌∙◌, ap, ℕ, List, [], ◌∷◌, map, arith, inl, inr}
 use Rattle.std.specs.List.{sum_by, AllByRecursion}
 use Rattle.std.specs.Map.{values_of}
 use Rattle.std.proofs.lemmas.Bool.Decides.{eqb_tells}
 use Rattle.std.proofs.lemmas.List.Sums.{sum_by-cons}
 use Rattle.xb_values.specs.Prefixes.{Prefix}
-use Rattle.bgp_attr.specs.Routes.{Route}
 use Rattle.xbgp_view.specs.Views.{Routes}
 use Rattle.spk_model.specs.Routing.{Tables}
-use Rattle.spk_model.specs.Routing.{Chosen as Best}
 use Rattle.attr_intern.specs.Pools.{Records, route_at}
 use Rattle.host_interned.specs.declared.chosen.Chosen.{Chosen}
 use Rattle.host_interned.specs.declared.tables.PeerTables.{PeerTables}
-use Rattle.host_interned.specs.Ribs.{best_by, meant, rib_of, route_or, routes_by, same_id, tables_by, times_held}
-use Rattle.host_interned.specs.Ribs.{times_sent, RibView, Shows}
+use Rattle.host_interned.specs.Ribs.{best_by, meant, rib_of, route_or, same_id, tables_by, times_held}
+use Rattle.host_interned.specs.Ribs.{times_sent, Shows}
 use Rattle.host_interned.proofs.OwnerLemmas.{best_by-same, routes_by-same}
 
 -- what is held means the same

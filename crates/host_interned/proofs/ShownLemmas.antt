@@ -1,6 +1,6 @@
 -- What a core shows once its rib shows other routes.
 use Rattle.std.proofs.Common.{◌≡◌, ◌≤◌, ◌-◌, refl, sym, ◌∙◌, ap, subst, ℕ, List, length}
-use Rattle.std.specs.List.{slice_set, AllByRecursion}
+use Rattle.std.specs.List.{AllByRecursion}
 use Rattle.std.proofs.Math.ListN.{length-set}
 use Rattle.xb_values.specs.Prefixes.{Prefix}
 use Rattle.bgp_attr.specs.Routes.{Route}

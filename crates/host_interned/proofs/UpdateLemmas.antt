@@ -1,5 +1,5 @@
 -- What an UPDATE leaves.
-use Rattle.std.proofs.Common.{◌≡◌, ◌≤◌, ◌-◌, refl, sym, ◌∙◌, ap, subst, ℕ, Bool, true, false, List, [], ◌∷◌, ◌++◌}
+use Rattle.std.proofs.Common.{◌≡◌, ◌-◌, refl, sym, ◌∙◌, ap, subst, ℕ, Bool, true, false, List, [], ◌∷◌, ◌++◌}
 use Rattle.std.proofs.Common.{fold, filter, length, arith}
 use Rattle.std.specs.Prelude.{if◌then◌else◌, not, nat_le, slice_index_or}
 use Rattle.std.specs.List.{slice_set, list_any}
@@ -70,7 +70,8 @@ withdraws a r sessions p u withdrawn nlri set ready withdrawn_is nlri_is same sh
     let named : ps ≡ filter (λ w. not (list_any (same_prefix w) (prefixes u.nlri))) (prefixes u.withdrawn) =
     same
     ∙ ap (λ (n : List ℕ). filter (λ w. not (list_any (same_prefix w) (prefixes n))) (prefixes withdrawn)) (sym nlri_is)
-    ∙ ap (λ (n : List ℕ). filter (λ w. not (list_any (same_prefix w) (prefixes u.nlri))) (prefixes n)) (sym withdrawn_is) in
+    ∙ ap (λ (n : List ℕ). filter (λ w. not (list_any (same_prefix w) (prefixes u.nlri))) (prefixes n))
+    (sym withdrawn_is) in
     does_same (λ setup t. drop_all setup sessions t p ps) (λ setup t. withdraw setup sessions t p u) a (rib_core a r)
     (λ trace. ap (drop_all (setup_of a) sessions (routed trace a) p) named)
     (drops a r sessions p ps ready shows)
@@ -121,15 +122,18 @@ pub announces_one : (a : Core) (e : Kept) (r : RibView) (copy after : Edited) (s
     (side own : Side) (prefix : Prefix) (o : Outcome) (native b : Bool)
     → IsReady a → side ≡ side_of a.config sessions p
     → copy.route ≡ a.received.route
-    → Answers (inbound a.engine.manifest a.engine.local a.engine.engine now side prefix copy.route) a.engine e o after.route
+    → Answers (inbound a.engine.manifest a.engine.local a.engine.engine now side prefix copy.route) a.engine e o
+    after.route
     → own ≡ a.config.local → native ≡ accepts_inbound after.route own → b ≡ accepted o native
     → Shows a.rib.own a.rib.best (with_routes a.rib p (λ s. routes_after b s prefix after.route)) r
-    → Does (λ setup t. announce_one setup sessions now a.received.route p t prefix) a (taken_core a e r a.received after)
+    → Does (λ setup t. announce_one setup sessions now a.received.route p t prefix) a
+    (taken_core a e r a.received after)
 unfolding announce_one
 announces_one a e r copy after sessions now p side own prefix o native b ready side_is copy_is answers own_is native_is
     b_is shows =
     let local : Side = a.config.local in
-    let c : Called = inbound a.engine.manifest local a.engine.engine now (side_of a.config sessions p) prefix a.received.route in
+    let c : Called = inbound a.engine.manifest local a.engine.engine now
+    (side_of a.config sessions p) prefix a.received.route in
     let same : inbound a.engine.manifest a.engine.local a.engine.engine now side prefix copy.route ≡ c =
     ap (λ (l : Side). inbound a.engine.manifest l a.engine.engine now side prefix copy.route) ready.local
     ∙ ap (λ (s : Side). inbound a.engine.manifest local a.engine.engine now s prefix copy.route) side_is
@@ -150,7 +154,8 @@ announces_one a e r copy after sessions now p side own prefix o native b ready s
       routing = λ trace.
           let u : Routed = ran (routed trace a) Inbound c in
           announced_routing (accepted c.outcome (accepts_inbound c.route local)) u p prefix c.route
-          ∙ ap (λ (x : Bool). (set_routes u p (routes_after x (at_tables u p).adjin prefix c.route)).routing) (sym accepts)
+          ∙ ap (λ (x : Bool). (set_routes u p (routes_after x (at_tables u p).adjin prefix c.route)).routing)
+          (sym accepts)
           ∙ ap (λ (r : Route). (set_routes u p (routes_after b (at_tables u p).adjin prefix r)).routing) (sym route_is)
           ∙ ap (λ (x : Engine). record {
             best = a.rib.best;
@@ -170,15 +175,20 @@ announces_one a e r copy after sessions now p side own prefix o native b ready s
 abbrev received_core : Core → Kept → Edited → Core
 received_core a e received = record a { engine = e; received = received }
 
-received : (a : Core) (e : Kept) (sessions : List Owned) (now p : ℕ) (side : Side) (body : List ℕ) (after : Edited) (o : Outcome)
+received : (a : Core) (e : Kept) (sessions : List Owned) (now p : ℕ) (side : Side) (body : List ℕ) (after : Edited)
+    (o : Outcome)
     → IsReady a → side ≡ side_of a.config sessions p
-    → Answers (receive a.engine.manifest a.engine.local a.engine.engine now side a.received.route body) a.engine e o after.route
-    → let c = receive a.engine.manifest a.config.local a.engine.engine now (side_of a.config sessions p) a.received.route body in
+    → Answers (receive a.engine.manifest a.engine.local a.engine.engine now side a.received.route body) a.engine e o
+    after.route
+    → let c = receive a.engine.manifest a.config.local a.engine.engine now
+    (side_of a.config sessions p) a.received.route body in
     (o ≡ c.outcome) × (after.route ≡ c.route) × Does (λ setup t. ran t Receive
-    (receive setup.manifest (setup.config).local (t.routing).engine now (side_of setup.config sessions p) a.received.route body))
+    (receive setup.manifest (setup.config).local (t.routing).engine now
+    (side_of setup.config sessions p) a.received.route body))
     a (received_core a e after)
 received a e sessions now p side body after o ready side_is answers =
-    let c : Called = receive a.engine.manifest a.config.local a.engine.engine now (side_of a.config sessions p) a.received.route body in
+    let c : Called = receive a.engine.manifest a.config.local a.engine.engine now
+    (side_of a.config sessions p) a.received.route body in
     let same : receive a.engine.manifest a.engine.local a.engine.engine now side a.received.route body ≡ c =
     ap (λ (l : Side). receive a.engine.manifest l a.engine.engine now side a.received.route body) ready.local
     ∙ ap (λ (s : Side). receive a.engine.manifest a.config.local a.engine.engine now s a.received.route body) side_is in
@@ -199,22 +209,27 @@ received a e sessions now p side body after o ready side_is answers =
 pub receives : (a : Core) (e : Kept) (b : Core) (sessions : List Owned) (now p : ℕ) (side : Side) (body : List ℕ)
     (ps : List Prefix) (after : Edited) (o : Outcome)
     → IsReady a → side ≡ side_of a.config sessions p
-    → Answers (receive a.engine.manifest a.engine.local a.engine.engine now side a.received.route body) a.engine e o after.route
+    → Answers (receive a.engine.manifest a.engine.local a.engine.engine now side a.received.route body) a.engine e o
+    after.route
     → true ≡ accepted o true
     → Does (λ setup t. fold (announce_one setup sessions now after.route p) t ps) (received_core a e after) b
     → Does (λ setup t. receive_route setup sessions now t p body ps a.received.route) a b
 unfolding receive_route
 receives a e b sessions now p side body ps after o ready side_is answers accepts rest =
-    let c : Called = receive a.engine.manifest a.config.local a.engine.engine now (side_of a.config sessions p) a.received.route body in
+    let c : Called = receive a.engine.manifest a.config.local a.engine.engine now
+    (side_of a.config sessions p) a.received.route body in
     let r = received a e sessions now p side body after o ready side_is answers in
     let both : Does (λ setup t. fold (announce_one setup sessions now after.route p) (ran t Receive
-    (receive setup.manifest (setup.config).local (t.routing).engine now (side_of setup.config sessions p) a.received.route body)) ps) a b =
+    (receive setup.manifest (setup.config).local (t.routing).engine now
+    (side_of setup.config sessions p) a.received.route body)) ps) a b =
     does_then (λ setup t. ran t Receive
-    (receive setup.manifest (setup.config).local (t.routing).engine now (side_of setup.config sessions p) a.received.route body))
+    (receive setup.manifest (setup.config).local (t.routing).engine now
+    (side_of setup.config sessions p) a.received.route body))
     (λ setup t. fold (announce_one setup sessions now after.route p) t ps) a (received_core a e after) b r.2 rest in
     let yes : true ≡ accepted c.outcome true = accepts ∙ ap (λ (x : Outcome). accepted x true) r.0 in
     does_same (λ setup t. fold (announce_one setup sessions now after.route p) (ran t Receive
-    (receive setup.manifest (setup.config).local (t.routing).engine now (side_of setup.config sessions p) a.received.route body)) ps)
+    (receive setup.manifest (setup.config).local (t.routing).engine now
+    (side_of setup.config sessions p) a.received.route body)) ps)
     (λ setup t. receive_route setup sessions now t p body ps a.received.route) a b
     (λ trace.
     let v : Routed = ran (routed trace a) Receive c in
@@ -227,22 +242,27 @@ receives a e b sessions now p side body ps after o ready side_is answers accepts
 pub receives_not : (a : Core) (e : Kept) (b : Core) (sessions : List Owned) (now p : ℕ) (side : Side) (body : List ℕ)
     (ps : List Prefix) (after : Edited) (o : Outcome)
     → IsReady a → side ≡ side_of a.config sessions p
-    → Answers (receive a.engine.manifest a.engine.local a.engine.engine now side a.received.route body) a.engine e o after.route
+    → Answers (receive a.engine.manifest a.engine.local a.engine.engine now side a.received.route body) a.engine e o
+    after.route
     → false ≡ accepted o true
     → Does (λ setup t. drop_all setup sessions t p ps) (received_core a e after) b
     → Does (λ setup t. receive_route setup sessions now t p body ps a.received.route) a b
 unfolding receive_route
 receives_not a e b sessions now p side body ps after o ready side_is answers accepts rest =
-    let c : Called = receive a.engine.manifest a.config.local a.engine.engine now (side_of a.config sessions p) a.received.route body in
+    let c : Called = receive a.engine.manifest a.config.local a.engine.engine now
+    (side_of a.config sessions p) a.received.route body in
     let r = received a e sessions now p side body after o ready side_is answers in
     let both : Does (λ setup t. drop_all setup sessions (ran t Receive
-    (receive setup.manifest (setup.config).local (t.routing).engine now (side_of setup.config sessions p) a.received.route body)) p ps) a b =
+    (receive setup.manifest (setup.config).local (t.routing).engine now
+    (side_of setup.config sessions p) a.received.route body)) p ps) a b =
     does_then (λ setup t. ran t Receive
-    (receive setup.manifest (setup.config).local (t.routing).engine now (side_of setup.config sessions p) a.received.route body))
+    (receive setup.manifest (setup.config).local (t.routing).engine now
+    (side_of setup.config sessions p) a.received.route body))
     (λ setup t. drop_all setup sessions t p ps) a (received_core a e after) b r.2 rest in
     let is_not : false ≡ accepted c.outcome true = accepts ∙ ap (λ (x : Outcome). accepted x true) r.0 in
     does_same (λ setup t. drop_all setup sessions (ran t Receive
-    (receive setup.manifest (setup.config).local (t.routing).engine now (side_of setup.config sessions p) a.received.route body)) p ps)
+    (receive setup.manifest (setup.config).local (t.routing).engine now
+    (side_of setup.config sessions p) a.received.route body)) p ps)
     (λ setup t. receive_route setup sessions now t p body ps a.received.route) a b
     (λ trace.
     let v : Routed = ran (routed trace a) Receive c in
@@ -274,11 +294,13 @@ announces a received b sessions now p body section u ps section_is fits route_is
       ap go section_is
       ∙ ap (λ (x : Bool). (receive_if (setup_of a) sessions x now (routed trace a) p body ps
       (route_in (setup_of a) sessions p section)).routing) fits
-      ∙ ap (λ (r : Route). (receive_route (setup_of a) sessions now (routed trace a) p body ps r).routing) (sym route_is)
+      ∙ ap (λ (r : Route). (receive_route (setup_of a) sessions now (routed trace a) p body ps r).routing)
+      (sym route_is)
       ∙ d.routing trace;
 }
 
-pub announces_not : (a : Core) (received : Edited) (b : Core) (sessions : List Owned) (now p : ℕ) (body section : List ℕ)
+pub announces_not : (a : Core) (received : Edited) (b : Core) (sessions : List Owned) (now p : ℕ)
+    (body section : List ℕ)
     (u : Update) (ps : List Prefix) → u.section ≡ section
     → nat_le (length (canon (route_in (setup_of a) sessions p section))) MAX_MESSAGE ≡ false
     → Does (λ setup t. drop_all setup sessions t p ps) (read_core a received) b
@@ -302,16 +324,20 @@ announces_not a received b sessions now p body section u ps section_is fits d = 
 -- the routes of an UPDATE that announces prefixes
 pub some_routes : (a b c : Core) (sessions : List Owned) (now p : ℕ) (body : List ℕ) (u : Update) (first : Prefix)
     (others ps : List Prefix) → ps ≡ first ∷ others
-    → Does (λ setup t. announce setup sessions now t p body u ps) a b → Does (λ setup t. withdraw setup sessions t p u) b c
+    → Does (λ setup t. announce setup sessions now t p body u ps) a b
+    → Does (λ setup t. withdraw setup sessions t p u) b c
     → Does (λ setup t. routes_of setup sessions now t p body u ps) a c
 some_routes a b c sessions now p body u first others ps is one two =
     let both : Does (λ setup t. withdraw setup sessions (announce setup sessions now t p body u ps) p u) a c =
-    does_then (λ setup t. announce setup sessions now t p body u ps) (λ setup t. withdraw setup sessions t p u) a b c one two in
+    does_then (λ setup t. announce setup sessions now t p body u ps)
+    (λ setup t. withdraw setup sessions t p u) a b c one two in
     subst (λ (l : List Prefix). Does (λ setup t. routes_of setup sessions now t p body u l) a c) (sym is)
-    (subst (λ (l : List Prefix). Does (λ setup t. withdraw setup sessions (announce setup sessions now t p body u l) p u) a c) is both)
+    (subst (λ (l : List Prefix). Does
+    (λ setup t. withdraw setup sessions (announce setup sessions now t p body u l) p u) a c) is both)
 
 -- and of one that announces none
-pub none_routes : (a c : Core) (sessions : List Owned) (now p : ℕ) (body : List ℕ) (u : Update) (ps : List Prefix) → ps ≡ []
+pub none_routes : (a c : Core) (sessions : List Owned) (now p : ℕ) (body : List ℕ) (u : Update) (ps : List Prefix) → ps
+    ≡ []
     → Does (λ setup t. withdraw setup sessions t p u) a c
     → Does (λ setup t. routes_of setup sessions now t p body u ps) a c
 none_routes a c sessions now p body u ps is d =
@@ -325,12 +351,14 @@ pub then_settled : (a c d : Core) (sessions : List Owned) (now p : ℕ) (body : 
     → Does (λ setup t. update setup sessions now t p body) a d
 unfolding update settle_all
 then_settled a c d sessions now p body u set u_is set_is one two =
-    let both : Does (λ setup t. fold (settle setup sessions) (routes_of setup sessions now t p body u (prefixes u.nlri)) set) a d =
+    let both : Does (λ setup t. fold (settle setup sessions)
+    (routes_of setup sessions now t p body u (prefixes u.nlri)) set) a d =
     does_then (λ setup t. routes_of setup sessions now t p body u (prefixes u.nlri))
     (λ setup t. fold (settle setup sessions) t set) a c d one two in
     let named : Does (λ setup t. settle_all setup sessions (routes_of setup sessions now t p body u (prefixes u.nlri))
     (prefixes u.withdrawn ++ prefixes u.nlri)) a d =
     subst (λ (l : List Prefix). Does (λ setup t. fold (settle setup sessions)
     (routes_of setup sessions now t p body u (prefixes u.nlri)) l) a d) set_is both in
-    subst (λ (x : Update). Does (λ setup t. settle_all setup sessions (routes_of setup sessions now t p body x (prefixes x.nlri))
+    subst (λ (x : Update). Does
+    (λ setup t. settle_all setup sessions (routes_of setup sessions now t p body x (prefixes x.nlri))
     (prefixes x.withdrawn ++ prefixes x.nlri)) a d) u_is named

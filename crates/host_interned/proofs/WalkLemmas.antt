@@ -38,7 +38,8 @@ module _ {X : Type 0} (es : List (Prefix × X)) (rising : IsRising prefix_cmp es
       ap keys_of (entries_after-some prefix_cmp prefix_total es after (p, e.0) rising e.1)
 
   -- fewer are left
-  pub walked_less : (after : Option Prefix) (p : Prefix) → Some p ≡ option_map (λ e. e.0) (entry_after prefix_cmp es after)
+  pub walked_less : (after : Option Prefix) (p : Prefix)
+      → Some p ≡ option_map (λ e. e.0) (entry_after prefix_cmp es after)
       → length (entries_after prefix_cmp es (Some p)) < length (entries_after prefix_cmp es after)
   walked_less after p is =
       let e = the_key (entry_after prefix_cmp es after) p is in

@@ -1,5 +1,5 @@
 -- The routes that a core keeps, and what it is for a function of it to follow a definition (this project's own).
-use Rattle.std.specs.Prelude.{◌≡◌, ◌≤◌, length, List, Result, Ok, Err, Some, map}
+use Rattle.std.specs.Prelude.{◌≡◌, ◌≤◌, length, List, Result, Ok, Err}
 use Rattle.std.specs.declared.alloc.AllocError.{AllocError}
 use Rattle.std.specs.List.{AllByRecursion}
 use Rattle.xb_values.specs.Prefixes.{Prefix}

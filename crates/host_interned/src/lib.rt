@@ -8,10 +8,10 @@
 //! that an UPDATE announces all prefixes that wait with one section.
 //!
 //! `Rib` has the pool, the trees and what is told. Each id in a tree is one owner of its record: a route that comes in
-//! is interned before its id is written, a best route shares the record of the route that was chosen, and an id that is
-//! overwritten or removed is released. `Rib` shows contracts the routes that the ids mean (`specs/Ribs`), and keeps that
-//! each record has at least as many owners as there are places that hold its id, so that all of them live. A look-up
-//! reads a bounded number of nodes.
+//! is interned before its id is written, a best route shares the record of the route that was chosen, and an id that
+//! is overwritten or removed is released. `Rib` shows contracts the routes that the ids mean (`specs/Ribs`), and keeps
+//! that each record has at least as many owners as there are places that hold its id, so that all of them live. A
+//! look-up reads a bounded number of nodes.
 //!
 //! `Core` puts chains of programs to it, and its functions follow the definitions of spk_model's `Routing` one by one,
 //! as those of host_listed do: the contract of each says which step of the definition it does (`Does` in

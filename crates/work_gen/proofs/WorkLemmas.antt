@@ -1,13 +1,13 @@
 -- The peers one after another, and the octets of a path.
 use Rattle.std.proofs.Common.{◌≡◌, ℕ, zero, suc, ◌+◌, ◌-◌, ◌*◌, ◌<◌, ◌≤◌, Bool, true, false, List, [], ◌∷◌, ◌++◌}
-use Rattle.std.proofs.Common.{length, take, drop, flat_map, refl, ap, sym, ◌∙◌, subst, arith, add-one, append_assoc}
+use Rattle.std.proofs.Common.{length, drop, flat_map, refl, ap, sym, subst, arith, add-one, append_assoc}
 use Rattle.std.proofs.Common.{length-append}
 use Rattle.std.proofs.Common.{Ok, Err, Some, None}
 use Rattle.std.specs.Prelude.{◌==◌, if◌then◌else◌, nat_lt, Option, Result, IfSome, IsOk, OnOk}
 use Rattle.std.specs.Option.{option_map}
 use Rattle.std.proofs.Math.Dec.{eqb-suc-zero}
 use Rattle.std.proofs.lemmas.Bool.{le-ltb, false≢true}
-use Rattle.std.proofs.lemmas.List.{append-nil, length-take}
+use Rattle.std.proofs.lemmas.List.{length-take}
 use Rattle.xb_domain.specs.Events.{Event, drain}
 use Rattle.xb_domain.specs.Views.{event_view}
 use Rattle.xb_domain.specs.declared.event.Event as lent
@@ -15,7 +15,7 @@ use Rattle.bgp_attr.specs.Routes.{canonical}
 use Rattle.xb_words.specs.Octets.{two_octets, four_octets}
 use Rattle.xb_values.specs.Prefixes.{Prefix, prefix_octets, octets_for}
 use Rattle.xbgp_config.specs.WorkConfig.{work_peer, work_peers, is_work_internal}
-use Rattle.work_gen.specs.Draws.{Drawn, draw}
+use Rattle.work_gen.specs.Draws.{draw}
 use Rattle.work_gen.specs.declared.work.Told.{Told}
 use Rattle.work_gen.specs.Work.{as_numbers, path_numbers, path_value, update, updates, well_known}
 use Rattle.work_gen.specs.declared.step.Step.TheVariants as steps

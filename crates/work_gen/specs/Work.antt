@@ -3,7 +3,7 @@ use Rattle.std.specs.Prelude.{ℕ, zero, suc, ◌+◌, ◌*◌, ◌%◌, ◌^◌
 use Rattle.std.specs.Prelude.{if◌then◌else◌}
 use Rattle.xb_words.specs.Octets.{four_octets}
 use Rattle.xb_values.specs.Prefixes.{Prefix, prefix_of, prefix_octets}
-use Rattle.xb_wire.specs.Messages.{Update, update_message}
+use Rattle.xb_wire.specs.Messages.{update_message}
 use Rattle.xb_domain.specs.Events.{Event, start, up, octets, drain}
 use Rattle.bgp_attr.specs.declared.codes.TheConstants.{ORIGIN, AS_PATH, NEXT_HOP, LOCAL_PREF}
 use Rattle.bgp_attr.specs.declared.flags.TheConstants.{WELL_KNOWN}

@@ -1,5 +1,5 @@
 -- A table stays one when a value is replaced, a new key is written or a key is removed.
-use Rattle.std.proofs.Common.{◌≡◌, ℕ, true, false, if◌then◌else◌, suc, ◌+◌, ◌<◌, ◌≤◌, List, [], ◌∷◌, ◌++◌, length, map}
+use Rattle.std.proofs.Common.{◌≡◌, ℕ, Bool, true, false, is_some, if◌then◌else◌, suc, ◌+◌, ◌<◌, ◌≤◌, List, [], ◌∷◌, ◌++◌, length, map}
 use Rattle.std.proofs.Common.{Option, Some, None, IsSome, IfSome, refl, sym, ◌∙◌, ap, subst, arith, length-append}
 use Rattle.std.specs.List.{AllByRecursion}
 use Rattle.std.specs.List.Sorted.{IsStrictlySortedBy}
@@ -11,6 +11,7 @@ use Rattle.std.specs.Ordering.{is_lt}
 use Rattle.xb_words.specs.Table.{with_value, without, entries_after, entry_after, first_of}
 use Rattle.xbgp_maps.specs.declared.node.Node.{Node}
 use Rattle.xbgp_maps.specs.declared.shape.MapShape.{MapShape}
+use Rattle.xbgp_maps.specs.Journals.{when_done}
 use Rattle.xbgp_maps.specs.Mappings.{Mapping, HasWidths, IsMapping, key_cmp, value_in, put_in, taken_from}
 use Rattle.xbgp_maps.specs.Tables.{IsTable, IsBlank}
 use Rattle.xbgp_maps.specs.Trees.{HaveWidth, IsAlone}
@@ -59,6 +60,16 @@ table_over m spare room k v table there width =
       capacity = table.capacity;
       blank = table.blank;
     }
+
+-- whether a key is there, by the value before
+pub there_if : (done : Bool) (v : List ℕ) (o : Option (List ℕ)) → o ≡ when_done done (Some v) None → done ≡ is_some o
+there_if true v o is = sym (ap is_some is)
+there_if false v o is = sym (ap is_some is)
+
+-- a table with a value replaced, if the key is there
+pub table_over_if : (m : Mapping) (spare : List Node) (room : ℕ) (k v : List ℕ) (done : Bool) → IsTable m spare room → done ≡ is_some (value_in m k) → length v ≡ m.shape.value → IsTable (record { shape = m.shape; entries = when_done done (with_value key_cmp m.entries k v) m.entries }) spare room
+table_over_if m spare room k v true table there width = table_over m spare room k v table (sym there) width
+table_over_if m spare room k v false table there width = table
 
 -- a table with a new key, whose node is the last spare one
 pub table_new : {B : Type 0} (f : B → Node) (m : Mapping) (all boxes : List B) (b : B) (room wider : ℕ) (k v : List ℕ) → IsTable m (map f all) room → all ≡ boxes ++ b ∷ [] → wider ≡ room → value_in m k ≡ None → length k ≡ m.shape.key → length v ≡ m.shape.value → IsTable (put_in m k v) (map f boxes) wider
@@ -113,6 +124,10 @@ pub table_absent : (m : Mapping) (spare : List Node) (room : ℕ) (k : List ℕ)
 table_absent m spare room k table absent =
     subst (λ (es : Entries). IsTable (record { shape = m.shape; entries = es }) spare room) (sym (without-absent key_cmp m.entries k absent)) table
 
+-- its map is the same
+pub taken_absent : (m : Mapping) (k : List ℕ) → value_in m k ≡ None → taken_from m k ≡ m
+taken_absent m k absent = ap (λ (es : Entries). record { shape = m.shape; entries = es }) (without-absent key_cmp m.entries k absent)
+
 -- a table without entries
 pub table_empty : (shape : MapShape) (spare : List Node) (room : ℕ) → length spare ≡ shape.entries → shape.entries ≤ room → AllByRecursion (IsBlank shape) spare → IsTable (record { shape = shape; entries = [] }) spare room
 unfolding IsStrictlySortedBy
@@ -144,6 +159,10 @@ pub entry_widths : {B : Type 0} (now : B → List ℕ × List ℕ) (m : Mapping)
 entry_widths now m after None kept is = tt
 entry_widths now m after (Some b) kept is =
     all_first (HasWidths m.shape) (entries_after key_cmp m.entries after) (now b) (all_after (HasWidths m.shape) m.entries after kept.widths) (sym is)
+
+-- a value that is there has the width of its map
+pub width_there : (m : Mapping) (k v : List ℕ) → IsMapping m → value_in m k ≡ Some v → length v ≡ m.shape.value
+width_there m k v kept is = (value_at-some key_cmp (HasWidths m.shape) m.entries k v kept.widths is).2.1
 
 -- a value that is looked up has the width of its map
 pub value_width : {B : Type 0} (now : B → List ℕ) (m : Mapping) (k : List ℕ) (o : Option B) → IsMapping m → option_map now o ≡ value_in m k

@@ -1,10 +1,11 @@
 -- What the calls on a node's tree are on the trees at its sides.
-use Rattle.std.proofs.Common.{◌≡◌, ℕ, ◌<◌, List, [], ◌∷◌, ◌++◌, length, Some, refl, sym, arith, length-append}
+use Rattle.std.proofs.Common.{◌≡◌, ℕ, ◌<◌, Bool, true, false, List, [], ◌∷◌, ◌++◌, length, Some, refl, sym, arith, length-append}
 use Rattle.std.specs.declared.cmp.Ordering.TheVariants.{Less, Equal, Greater}
 use Rattle.std.proofs.lemmas.Cmp.{nat_list_cmp_total}
 use Rattle.std.proofs.lemmas.Map.Lookups.{exact_bytes}
 use Rattle.xb_words.specs.Table.{value_at, with_value, without, entry_after, first_of, IsRising}
 use Rattle.xbgp_maps.specs.declared.node.Node.{Node}
+use Rattle.xbgp_maps.specs.Journals.{when_done}
 use Rattle.xbgp_maps.specs.Mappings.{key_cmp}
 use Rattle.xbgp_maps.specs.Trees.{entries_of, entries_below, entry_of, HaveWidth}
 use Rattle.xb_words.proofs.ListLemmas.{AllByRecursion-left, AllByRecursion-right}
@@ -85,6 +86,16 @@ with_here n q v same rising = middle.with_value-equal key_cmp nat_list_cmp_total
 pub with_right : (n : Node) (q v : List ℕ) → key_cmp q n.key.items ≡ Greater → IsRising key_cmp (entries_below n) → with_value key_cmp (entries_below n) q v ≡ entries_of n.left ++ entry_of n ∷ with_value key_cmp (entries_of n.right) q v
 with_right n q v more rising = middle.with_value-greater key_cmp nat_list_cmp_total q v (entries_of n.left) (entry_of n) (entries_of n.right) more rising
 
+-- a value is replaced at the left, if the key is there
+pub over_left : (n : Node) (q v : List ℕ) (there : Bool) → key_cmp q n.key.items ≡ Less → when_done there (with_value key_cmp (entries_below n) q v) (entries_below n) ≡ when_done there (with_value key_cmp (entries_of n.left) q v) (entries_of n.left) ++ entry_of n ∷ entries_of n.right
+over_left n q v true less = with_left n q v less
+over_left n q v false less = refl
+
+-- a value is replaced at the right, if the key is there
+pub over_right : (n : Node) (q v : List ℕ) (there : Bool) → key_cmp q n.key.items ≡ Greater → IsRising key_cmp (entries_below n) → when_done there (with_value key_cmp (entries_below n) q v) (entries_below n) ≡ entries_of n.left ++ entry_of n ∷ when_done there (with_value key_cmp (entries_of n.right) q v) (entries_of n.right)
+over_right n q v true more rising = with_right n q v more rising
+over_right n q v false more rising = refl
+
 -- a lower key is removed at the left
 pub without_left : (n : Node) (q : List ℕ) → key_cmp q n.key.items ≡ Less → IsRising key_cmp (entries_below n) → without key_cmp (entries_below n) q ≡ without key_cmp (entries_of n.left) q ++ entry_of n ∷ entries_of n.right
 without_left n q less rising = middle.without-less key_cmp nat_list_cmp_total q (entries_of n.left) (entry_of n) (entries_of n.right) less rising
@@ -109,5 +120,7 @@ pub ruleset look_up = (sides, value_left, value_here, value_right)
 pub ruleset walk = (sides, first_below, after_left, after_here, after_right)
 
 pub ruleset write = (look_up, with_left, with_here, with_right)
+
+pub ruleset over = (look_up, with_here, over_left, over_right)
 
 pub ruleset removal = (look_up, without_left, without_here, without_right, same_key)

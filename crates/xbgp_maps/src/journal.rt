@@ -1,9 +1,12 @@
 // The writes of a run, each with the value before it, so that they can be taken back.
-ghost use Rattle.std.specs.Prelude.{◌≡◌, ◌-◌, ◌<◌, ◌≤◌, [], ◌∷◌, ◌++◌, length, take, nat_le, IfOk, IfSome};
+ghost use Rattle.std.specs.Prelude.{◌≡◌, ◌-◌, ◌<◌, ◌≤◌, [], ◌∷◌, ◌++◌, length, take, nat_le, is_some, None, IfOk};
 ghost use Rattle.std.specs.List.{slice_get};
 ghost use Rattle.std.specs.Option.{option_map};
+ghost use Rattle.xbgp_maps.specs.Journals.{when_done, write_of};
+ghost use Rattle.xbgp_maps.specs.Mappings.{value_in, put_in, taken_from};
 
 use crate::limits::{BUDGET, MAX_KEY, MAX_VALUE};
+use crate::table::Table;
 use std::alloc::{AllocError, Global};
 use std::marker::Model;
 use xb_values::Buf;
@@ -64,15 +67,43 @@ impl Change {
         }
     }
 
-    fn fill(&mut self, map: u32, key: &[u8], old: Option<&[u8]>)
-        requires key { length key.now ≤ MAX_KEY }
-        requires old { IfSome old (λ v. length v.now ≤ MAX_VALUE) }
-        ensures { self.new ≡ record { map = map; key = key.now; old = option_map (λ v. v.now) old.entry } }
+    // Becomes the write of a new key.
+    fn fill(&mut self, map: u32, key: &[u8])
+        requires { length key.now ≤ MAX_KEY }
+        ensures { self.new ≡ record { map = map; key = key.now; old = None } }
     {
         self.map = map;
         self.key.replace(key);
-        self.was_there = old.is_some();
-        self.value.replace(old.unwrap_or(&[]));
+        self.was_there = false;
+    }
+
+    // Replaces the value at a key of a map, if the key is there, which is returned, and becomes that write.
+    fn replace(&mut self, map: u32, table: &mut Table, key: &[u8], value: &[u8]) -> bool
+        requires key { length key.now ≤ MAX_KEY }
+        requires width { length value.now ≡ table.old.shape.value }
+        requires value { length value.now ≤ MAX_VALUE }
+        ensures there { result ≡ is_some (value_in table.old key.now) }
+        ensures table { table.new ≡ when_done result (put_in table.old key.now value.now) table.old }
+        ensures write { self.new ≡ write_of map table.old key.now }
+    {
+        self.map = map;
+        self.key.replace(key);
+        self.was_there = table.replace(key, value, &mut self.value);
+        self.was_there
+    }
+
+    // Removes a key from a map, if it is there, which is returned, and becomes that removal.
+    fn take_out(&mut self, map: u32, table: &mut Table, key: &[u8]) -> bool
+        requires key { length key.now ≤ MAX_KEY }
+        requires value { table.old.shape.value ≤ MAX_VALUE }
+        ensures there { result ≡ is_some (value_in table.old key.now) }
+        ensures table { table.new ≡ when_done result (taken_from table.old key.now) table.old }
+        ensures write { self.new ≡ write_of map table.old key.now }
+    {
+        self.map = map;
+        self.key.replace(key);
+        self.was_there = table.take_out(key, &mut self.value);
+        self.was_there
     }
 }
 
@@ -136,16 +167,47 @@ impl Journal {
         self.count = 0;
     }
 
-    /// Notes a write.
-    pub fn note(&mut self, map: u32, key: &[u8], old: Option<&[u8]>)
+    /// Notes the write of a new key.
+    pub fn note_new(&mut self, map: u32, key: &[u8])
         requires room { length self.old < BUDGET }
         requires key { length key.now ≤ MAX_KEY }
-        requires old { IfSome old (λ v. length v.now ≤ MAX_VALUE) }
-        ensures { self.new
-            ≡ self.old ++ record { map = map; key = key.now; old = option_map (λ v. v.now) old.entry } ∷ [] }
+        ensures { self.new ≡ self.old ++ record { map = map; key = key.now; old = None } ∷ [] }
     {
-        self.changes[self.count].fill(map, key, old);
+        self.changes[self.count].fill(map, key);
         self.count += 1;
+    }
+
+    /// Replaces the value at a key of a map and notes the write, if the key is there, which is returned.
+    pub fn replace(&mut self, map: u32, table: &mut Table, key: &[u8], value: &[u8]) -> bool
+        requires room { length self.old < BUDGET }
+        requires key { length key.now ≤ MAX_KEY }
+        requires width { length value.now ≡ table.old.shape.value }
+        requires value { length value.now ≤ MAX_VALUE }
+        ensures there { result ≡ is_some (value_in table.old key.now) }
+        ensures table { table.new ≡ when_done result (put_in table.old key.now value.now) table.old }
+        ensures journal { self.new ≡ when_done result (self.old ++ write_of map table.old key.now ∷ []) self.old }
+    {
+        if !self.changes[self.count].replace(map, table, key, value) {
+            return false;
+        }
+        self.count += 1;
+        true
+    }
+
+    /// Removes a key from a map and notes the removal, if the key is there, which is returned.
+    pub fn take_out(&mut self, map: u32, table: &mut Table, key: &[u8]) -> bool
+        requires room { length self.old < BUDGET }
+        requires key { length key.now ≤ MAX_KEY }
+        requires value { table.old.shape.value ≤ MAX_VALUE }
+        ensures there { result ≡ is_some (value_in table.old key.now) }
+        ensures table { table.new ≡ when_done result (taken_from table.old key.now) table.old }
+        ensures journal { self.new ≡ when_done result (self.old ++ write_of map table.old key.now ∷ []) self.old }
+    {
+        if !self.changes[self.count].take_out(map, table, key) {
+            return false;
+        }
+        self.count += 1;
+        true
     }
 
     /// The last write.

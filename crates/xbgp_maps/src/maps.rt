@@ -58,24 +58,18 @@ fn write(table: &mut Table, journal: &mut Journal, map: u32, key: &[u8], value: 
     ensures journal { journal.new
         ≡ when_done (was_put result) (journal.old ++ write_of map table.old key.now ∷ []) journal.old }
 {
-    let old = table.get(key);
+    let is_full = table.is_full();
+    table.know();
     if journal.is_spent() {
-        return Put::Budget;
-    }
-    match old {
-        Some(_) => {
-            journal.note(map, key, old);
-            table.overwrite(key, value);
-            Put::Done
-        }
-        None => {
-            if table.is_full() {
-                return Put::Full;
-            }
-            journal.note(map, key, None);
-            table.insert(key, value);
-            Put::Done
-        }
+        Put::Budget
+    } else if journal.replace(map, table, key, value) {
+        Put::Done
+    } else if is_full {
+        Put::Full
+    } else {
+        journal.note_new(map, key);
+        table.insert(key, value);
+        Put::Done
     }
 }
 
@@ -89,16 +83,14 @@ fn take_out(table: &mut Table, journal: &mut Journal, map: u32, key: &[u8]) -> R
     ensures journal { journal.new
         ≡ when_done (was_removed result) (journal.old ++ write_of map table.old key.now ∷ []) journal.old }
 {
-    let gone = table.get(key);
+    table.know();
     if journal.is_spent() {
-        return Remove::Budget;
+        Remove::Budget
+    } else if journal.take_out(map, table, key) {
+        Remove::Done
+    } else {
+        Remove::Absent
     }
-    if gone.is_none() {
-        return Remove::Absent;
-    }
-    journal.note(map, key, gone);
-    table.remove(key);
-    Remove::Done
 }
 
 // Gives a map back the value that was at the key of a write, if there was one.

@@ -1,18 +1,20 @@
 // One map: a tree of its entries, and a spare node for each entry it has room for, so that no write takes memory.
 ghost use Rattle.std.specs.Prelude.{◌≡◌, ◌<◌, ◌≤◌, [], ◌∷◌, ◌++◌, length, map, nat_le, vec_capacity};
-ghost use Rattle.std.specs.Prelude.{None, IsSome, IfOk, IfSome};
+ghost use Rattle.std.specs.Prelude.{None, Some, is_some, IfOk, IfSome};
 ghost use Rattle.std.specs.List.{AllByRecursion};
 ghost use Rattle.std.specs.Option.{option_map};
 ghost use Rattle.xb_words.specs.Table.{entry_after};
+ghost use Rattle.xbgp_maps.specs.Journals.{when_done};
 ghost use Rattle.xbgp_maps.specs.Mappings.{key_cmp, value_in, put_in, taken_from, HasWidths, IsMapping};
 ghost use Rattle.xbgp_maps.specs.Tables.{IsBlank};
 ghost use Rattle.xbgp_maps.specs.Trees.{IsAlone};
 
 use crate::node::{Node, Tree};
 use crate::shape::MapShape;
-use crate::tree::{copy_over, find, first, first_after, insert, overwrite, remove};
+use crate::tree::{copy_over, find, first, first_after, insert, overwrite, remove, replace};
 use std::alloc::{AllocError, Global};
 use std::marker::Model;
+use xb_values::Buf;
 
 /// One map. Contracts see its shape and its entries by rising key.
 #[derive(Drop)]
@@ -107,13 +109,32 @@ impl Table {
         self.spare.is_empty()
     }
 
-    /// Replaces a value that is there.
-    pub fn overwrite(&mut self, key: &[u8], value: &[u8])
-        requires there { IsSome (value_in self.old key.now) }
-        requires width { length value.now ≡ self.old.shape.value }
-        ensures { self.new ≡ put_in self.old key.now value.now }
+    /// Lets callers know what every map keeps.
+    #[inline(always)]
+    pub fn know(&self)
+        ensures { IsMapping self.now }
     {
-        overwrite(&mut self.root, key, value);
+        let _ = &self.root;
+    }
+
+    /// Replaces the value at a key, if the key is there, which is returned.
+    pub fn overwrite(&mut self, key: &[u8], value: &[u8]) -> bool
+        requires { length value.now ≡ self.old.shape.value }
+        ensures there { result ≡ is_some (value_in self.old key.now) }
+        ensures after { self.new ≡ when_done result (put_in self.old key.now value.now) self.old }
+    {
+        overwrite(&mut self.root, key, value)
+    }
+
+    /// Replaces the value at a key as `overwrite` does, and copies the value before into a buffer.
+    pub fn replace(&mut self, key: &[u8], value: &[u8], before: &mut Buf) -> bool
+        requires width { length value.now ≡ self.old.shape.value }
+        requires room { length value.now ≤ before.old.capacity }
+        ensures before { value_in self.old key.now ≡ when_done result (Some before.new.octets) None }
+        ensures capacity { before.new.capacity ≡ before.old.capacity }
+        ensures after { self.new ≡ when_done result (put_in self.old key.now value.now) self.old }
+    {
+        replace(&mut self.root, key, value, before)
     }
 
     /// Writes a new key.
@@ -136,9 +157,7 @@ impl Table {
         requires value { length value.now ≡ self.old.shape.value }
         ensures { self.new ≡ put_in self.old key.now value.now }
     {
-        if self.get(key).is_some() {
-            self.overwrite(key, value);
-        } else {
+        if !self.overwrite(key, value) {
             self.insert(key, value);
         }
     }
@@ -149,6 +168,23 @@ impl Table {
     {
         if let Some(node) = remove(&mut self.root, key) {
             keep(&mut self.spare, node);
+        }
+    }
+
+    /// Removes a key, if it is there, which is returned, and copies its value into a buffer.
+    pub fn take_out(&mut self, key: &[u8], before: &mut Buf) -> bool
+        requires { self.old.shape.value ≤ before.old.capacity }
+        ensures before { value_in self.old key.now ≡ when_done result (Some before.new.octets) None }
+        ensures capacity { before.new.capacity ≡ before.old.capacity }
+        ensures after { self.new ≡ when_done result (taken_from self.old key.now) self.old }
+    {
+        match remove(&mut self.root, key) {
+            None => false,
+            Some(node) => {
+                before.replace(&node.value);
+                keep(&mut self.spare, node);
+                true
+            }
         }
     }
 

@@ -1,8 +1,9 @@
 // A search tree of entries by rising key: look-ups, writes and removals, each by one way down. A node that is removed
 // is handed out whole and a new entry comes as a node, so no call here takes memory.
-ghost use Rattle.std.specs.Prelude.{◌≡◌, ◌+◌, ◌≤◌, ◌∷◌, ◌++◌, length, max, None, Some, IsSome};
+ghost use Rattle.std.specs.Prelude.{◌≡◌, ◌+◌, ◌≤◌, ◌∷◌, ◌++◌, length, max, None, Some, is_some};
 ghost use Rattle.std.specs.Option.{option_map};
 ghost use Rattle.xb_words.specs.Table.{entry_after, first_of, value_at, with_value, without, IsRising};
+ghost use Rattle.xbgp_maps.specs.Journals.{when_done};
 ghost use Rattle.xbgp_maps.specs.Mappings.{key_cmp};
 ghost use Rattle.xbgp_maps.specs.Trees.{entries_of, entries_below, entry_of, height_of, HaveWidth, IsAlone};
 ghost use Rattle.xbgp_maps.specs.Trees.{IsBalanced, IsBalancedBelow, IsLow, IsSameOrOneMore, IsTaken};
@@ -10,6 +11,7 @@ ghost use Rattle.xbgp_maps.specs.Trees.{IsBalanced, IsBalancedBelow, IsLow, IsSa
 use crate::key::order;
 use crate::node::{Node, Tree, balanced};
 use std::cmp::Ordering;
+use xb_values::Buf;
 
 /// The value at a key.
 #[tactic(auto, using(crate::proofs::TreesLemmas::look_up))]
@@ -83,23 +85,61 @@ pub(crate) fn copy_over(octets: &mut Vec<u8>, others: &[u8])
     octets.as_mut_slice().copy_from_slice(others);
 }
 
-/// Replaces the value at a key that is there.
-#[tactic(auto, using(crate::proofs::TreesLemmas::write))]
-pub(crate) fn overwrite(tree: &mut Tree, key: &[u8], value: &[u8])
+/// Replaces the value at a key, if the key is there, which is returned.
+#[tactic(auto, using(crate::proofs::TreesLemmas::over))]
+pub(crate) fn overwrite(tree: &mut Tree, key: &[u8], value: &[u8]) -> bool
     requires rising { IsRising key_cmp (entries_of tree.old) }
     requires widths { HaveWidth (length value.now) (entries_of tree.old) }
-    requires there { IsSome (value_at key_cmp (entries_of tree.old) key.now) }
     requires balanced { IsBalanced tree.old }
-    ensures entries { entries_of tree.new ≡ with_value key_cmp (entries_of tree.old) key.now value.now }
+    ensures there { result ≡ is_some (value_at key_cmp (entries_of tree.old) key.now) }
+    ensures entries { entries_of tree.new
+        ≡ when_done result (with_value key_cmp (entries_of tree.old) key.now value.now) (entries_of tree.old) }
     ensures balanced { IsBalanced tree.new }
     ensures height { height_of tree.new ≡ height_of tree.old }
 {
-    if let Tree::Fork(node) = tree {
-        let node = &mut **node;
-        match order(key, &node.key) {
-            Ordering::Less => overwrite(&mut node.left, key, value),
-            Ordering::Greater => overwrite(&mut node.right, key, value),
-            Ordering::Equal => copy_over(&mut node.value, value),
+    match tree {
+        Tree::Leaf => false,
+        Tree::Fork(node) => {
+            let node = &mut **node;
+            match order(key, &node.key) {
+                Ordering::Less => overwrite(&mut node.left, key, value),
+                Ordering::Greater => overwrite(&mut node.right, key, value),
+                Ordering::Equal => {
+                    copy_over(&mut node.value, value);
+                    true
+                }
+            }
+        }
+    }
+}
+
+/// Replaces the value at a key as `overwrite` does, and copies the value before into a buffer.
+#[tactic(auto, using(crate::proofs::TreesLemmas::over))]
+pub(crate) fn replace(tree: &mut Tree, key: &[u8], value: &[u8], before: &mut Buf) -> bool
+    requires rising { IsRising key_cmp (entries_of tree.old) }
+    requires widths { HaveWidth (length value.now) (entries_of tree.old) }
+    requires room { length value.now ≤ before.old.capacity }
+    requires balanced { IsBalanced tree.old }
+    ensures before { value_at key_cmp (entries_of tree.old) key.now ≡ when_done result (Some before.new.octets) None }
+    ensures capacity { before.new.capacity ≡ before.old.capacity }
+    ensures entries { entries_of tree.new
+        ≡ when_done result (with_value key_cmp (entries_of tree.old) key.now value.now) (entries_of tree.old) }
+    ensures balanced { IsBalanced tree.new }
+    ensures height { height_of tree.new ≡ height_of tree.old }
+{
+    match tree {
+        Tree::Leaf => false,
+        Tree::Fork(node) => {
+            let node = &mut **node;
+            match order(key, &node.key) {
+                Ordering::Less => replace(&mut node.left, key, value, before),
+                Ordering::Greater => replace(&mut node.right, key, value, before),
+                Ordering::Equal => {
+                    before.replace(&node.value);
+                    copy_over(&mut node.value, value);
+                    true
+                }
+            }
         }
     }
 }

@@ -1,4 +1,4 @@
-use Rattle.std.proofs.Common.{◌≡◌, ℕ, ◌+◌, ◌<◌, ◌++◌, List, ◌∙◌, arith, length-append}
+use Rattle.std.proofs.Common.{◌≡◌, ◌+◌, ◌<◌, ◌++◌, ◌∙◌, arith, length-append}
 use Rattle.xb_words.specs.Octets.{two_octets}
 use Rattle.work_gen.proofs.WorkLemmas.{as_numbers-appended, as_numbers-next}
 use Rattle.work_gen.proofs.route.append_numbers.Goals as goal

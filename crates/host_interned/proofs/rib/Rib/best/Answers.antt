@@ -3,9 +3,7 @@ use Rattle.std.specs.Option.{option_map}
 use Rattle.xb_words.specs.Table.{value_at}
 use Rattle.xb_values.specs.Prefixes.{prefix_cmp}
 use Rattle.bgp_attr.specs.Routes.{Route}
-use Rattle.spk_model.specs.Routing.{Chosen as Best}
-use Rattle.host_interned.specs.declared.chosen.Chosen.{Chosen}
-use Rattle.host_interned.specs.Ribs.{meant, route_or, times_held, RibView}
+use Rattle.host_interned.specs.Ribs.{route_or, times_held, RibView}
 use Rattle.host_interned.proofs.MappedLemmas.{value_at-mapped}
 use Rattle.host_interned.proofs.HeldLemmas.{chosen_live, chosen_lives}
 use Rattle.host_interned.proofs.KeptLemmas.{best_of_id}

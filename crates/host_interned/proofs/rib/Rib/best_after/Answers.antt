@@ -2,9 +2,7 @@ use Rattle.std.proofs.Common.{sym, subst, ◌≡◌, ◌∙◌}
 use Rattle.std.specs.Option.{option_map}
 use Rattle.xb_words.specs.Table.{entry_after, IsRising}
 use Rattle.xb_values.specs.Prefixes.{prefix_cmp}
-use Rattle.spk_model.specs.Routing.{Chosen as Best}
-use Rattle.host_interned.specs.declared.chosen.Chosen.{Chosen}
-use Rattle.host_interned.specs.Ribs.{meant, RibView}
+use Rattle.host_interned.specs.Ribs.{RibView}
 use Rattle.host_interned.proofs.MappedLemmas.{next_key-mapped, rising-mapped}
 use Rattle.host_interned.proofs.KeptLemmas.{best_of_id}
 use Rattle.host_interned.proofs.rib.Rib.best_after.Goals as goal

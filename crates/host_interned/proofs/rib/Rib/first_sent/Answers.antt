@@ -1,9 +1,9 @@
-use Rattle.std.proofs.Common.{sym, subst, ◌≡◌, ◌∙◌, ap, None}
+use Rattle.std.proofs.Common.{sym, subst, ◌≡◌, ◌∙◌, None}
 use Rattle.std.specs.Option.{option_map}
 use Rattle.xb_words.specs.Table.{entry_after, IsRising}
-use Rattle.xb_values.specs.Prefixes.{Prefix, prefix_cmp}
+use Rattle.xb_values.specs.Prefixes.{prefix_cmp}
 use Rattle.spk_model.specs.Routing.{Tables}
-use Rattle.host_interned.specs.Ribs.{meant, tables_by, tables_in}
+use Rattle.host_interned.specs.Ribs.{meant}
 use Rattle.host_interned.proofs.MappedLemmas.{next_key-mapped, rising-mapped}
 use Rattle.host_interned.proofs.KeptLemmas.{peer_seen}
 use Rattle.host_interned.proofs.rib.Rib.first_sent.Goals as goal

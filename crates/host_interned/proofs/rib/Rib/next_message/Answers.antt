@@ -1,4 +1,4 @@
-use Rattle.std.proofs.Common.{sym, subst, length, ◌<◌, true, arith}
+use Rattle.std.proofs.Common.{sym, subst, length, ◌<◌}
 use Rattle.std.specs.Bool.{OnTrue}
 use Rattle.xb_values.specs.Prefixes.{Sections}
 use Rattle.xb_domain.specs.declared.output.Packing.TheVariants.{Grouped}

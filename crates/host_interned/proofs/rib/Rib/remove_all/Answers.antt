@@ -1,6 +1,6 @@
-use Rattle.std.proofs.Common.{◌≤◌, sym, subst, ap, ◌∙◌, ℕ}
+use Rattle.std.proofs.Common.{◌≤◌, sym, subst, ap, ℕ}
 use Rattle.xb_words.specs.Table.{without}
-use Rattle.xb_values.specs.Prefixes.{prefix_cmp, prefixes}
+use Rattle.xb_values.specs.Prefixes.{prefix_cmp}
 use Rattle.spk_model.specs.Routing.{without_all}
 use Rattle.host_interned.specs.Ribs.{tables_in}
 use Rattle.host_interned.proofs.RemovedLemmas.{all_removed, left_then, none_removed, removal_then, sent_count}

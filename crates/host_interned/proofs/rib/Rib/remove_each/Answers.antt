@@ -1,10 +1,9 @@
-use Rattle.std.proofs.Common.{◌≤◌, length, sym, subst, ap, ◌∙◌, ℕ}
+use Rattle.std.proofs.Common.{◌≤◌, sym, subst, ℕ}
 use Rattle.xb_words.specs.Table.{without}
 use Rattle.xb_values.specs.Prefixes.{prefix_cmp}
 use Rattle.xbgp_view.specs.Views.{Routes}
-use Rattle.spk_model.specs.Routing.{Tables}
 use Rattle.host_interned.specs.Ribs.{tables_in, with_sent, Shows}
-use Rattle.host_interned.proofs.RemovedLemmas.{fewer_routes, no_routes, none_removed, removal_then, sent_count, sent_in}
+use Rattle.host_interned.proofs.RemovedLemmas.{no_routes, none_removed, removal_then, sent_count}
 use Rattle.host_interned.proofs.rib.Rib.remove_each.Goals as goal
 
 pub prefixes-init : goal.prefixes-init

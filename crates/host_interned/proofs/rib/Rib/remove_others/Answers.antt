@@ -1,7 +1,7 @@
 use Rattle.std.proofs.Common.{◌≡◌, ◌≤◌, sym, subst, ap, ◌∙◌, ◌∷◌, ℕ, List, filter}
 use Rattle.std.specs.Prelude.{not}
 use Rattle.xb_words.specs.Table.{has_key, without}
-use Rattle.xb_values.specs.Prefixes.{Prefix, prefix_cmp, prefixes}
+use Rattle.xb_values.specs.Prefixes.{Prefix, prefix_cmp}
 use Rattle.spk_model.specs.Routing.{without_all}
 use Rattle.host_interned.specs.Ribs.{tables_in}
 use Rattle.host_interned.proofs.RemovedLemmas.{all_removed, left_then, none_removed, removal_then, sent_count}

@@ -1,4 +1,4 @@
-use Rattle.std.proofs.Common.{sym, ◌≡◌, ◌∙◌, ◌-◌, ap, None, Some, Option}
+use Rattle.std.proofs.Common.{sym, ◌∙◌, ◌-◌, ap, Some, Option}
 use Rattle.std.specs.Option.{option_map}
 use Rattle.bgp_attr.specs.Routes.{Route}
 use Rattle.host_interned.specs.Ribs.{meant, route_or, times_held}

@@ -1,5 +1,4 @@
 use Rattle.std.proofs.Common.{◌+◌, arith}
-use Rattle.attr_intern.specs.Pools.{interned}
 use Rattle.host_interned.specs.Ribs.{meant, same_id, times_held}
 use Rattle.host_interned.proofs.HeldLemmas.{chosen_live}
 use Rattle.host_interned.proofs.KeptLemmas.{is_living, sets_best, shares, source_lives}

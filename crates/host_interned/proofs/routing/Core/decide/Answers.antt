@@ -1,5 +1,5 @@
-use Rattle.std.proofs.Common.{◌≡◌, ◌≤◌, ◌∙◌, sym, subst, ℕ, length, Option, Some, None}
-use Rattle.std.specs.Prelude.{IfSome, IsSome}
+use Rattle.std.proofs.Common.{◌≤◌, ◌∙◌, sym, subst, ℕ, Option, Some, None}
+use Rattle.std.specs.Prelude.{IsSome}
 use Rattle.bgp_attr.specs.Routes.{Route}
 use Rattle.host_interned.specs.Ribs.{route_from}
 use Rattle.host_interned.specs.Deciding.{IsWinner}
@@ -51,7 +51,8 @@ returns-in-Some c =
     let wins = subst (λ (o : Option ℕ). IsWinner a.config a.engine c.winner.new.engine a.rib.tables c.args.sessions.now
     c.args.prefix o) c.in-Some.is c.in_ok-winner.ensures in
     goes_both c.set_best.result _ a _
-    (λ shows. decides a c.winner.new.engine c.set_best.new.self c.args.sessions.now c.args.prefix (Some c.in-Some.source)
+    (λ shows. decides a c.winner.new.engine c.set_best.new.self c.args.sessions.now c.args.prefix
+    (Some c.in-Some.source)
     c.requires.ready c.requires.all wins shows)
     (λ shows. ready_same a c.winner.new.engine c.set_best.new.self a.received a.route a.exporter c.requires.ready
     wins.local shows)

@@ -1,5 +1,4 @@
-use Rattle.std.proofs.Common.{◌≤◌, ◌∙◌, sym, ap, subst, refl, ℕ, length, Some, None}
-use Rattle.spk_model.specs.Routing.{Chosen}
+use Rattle.std.proofs.Common.{◌∙◌, sym, ap, refl, Some, None}
 use Rattle.host_interned.proofs.FollowingLemmas.{goes_both}
 use Rattle.host_interned.proofs.ShownLemmas.{ready_same}
 use Rattle.host_interned.proofs.ExportLemmas.{not_exported, retracted, exports, source_within}
@@ -7,7 +6,8 @@ use Rattle.host_interned.proofs.routing.Core.export.Goals as goal
 
 pub returns-then-not-is_up : goal.returns-then-not-is_up
 returns-then-not-is_up c =
-    not_exported c.args.self.now c.args.sessions.now c.args.prefix c.args.peer c.index-sessions-i.result c.requires.ready
+    not_exported c.args.self.now c.args.sessions.now c.args.prefix c.args.peer c.index-sessions-i.result
+    c.requires.ready
     c.requires.all c.requires.least c.requires.most c.index-sessions-i.is (sym c.is_up.ensures ∙ c.if-not-is_up.true)
 
 pub returns-in_default : goal.returns-in_default

@@ -20,7 +20,8 @@ prefixes-preserved c =
       ready = d.ready;
       peers = does_peers _ c.prefixes.self c.export.new.self d ∙ c.prefixes.invariant.peers;
       comes = λ end rest. c.prefixes.invariant.comes end
-          (does_first (λ setup u q. export setup c.args.sessions.now q u c.args.peer) c.prefix-item.result (drop i items)
+          (does_first (λ setup u q. export setup c.args.sessions.now q u c.args.peer) c.prefix-item.result
+          (drop i items)
           (drop (i + 1) items) c.prefixes.self c.export.new.self end first d rest);
     }
 

@@ -10,6 +10,7 @@ prefixes-preserved c =
       ready = d.ready;
       all = c.prefixes.invariant.all ∙ sym (does_peers _ c.prefixes.self c.settle.new.self d);
       comes = λ end rest. c.prefixes.invariant.comes end
-          (does_first (λ setup. settle setup c.args.sessions.now) c.in-Some.prefix c.prefixes.prefixes c.pop_first.new.self
+          (does_first (λ setup. settle setup c.args.sessions.now) c.in-Some.prefix c.prefixes.prefixes
+          c.pop_first.new.self
           c.prefixes.self c.settle.new.self end c.in-Some.ensures.first d rest);
     }
