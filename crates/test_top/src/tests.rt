@@ -3,6 +3,7 @@ mod memory;
 mod refusals;
 mod streams;
 mod texts;
+mod work;
 
 use std::alloc::{AllocError, Global};
 use std::process::Abort;

@@ -4,3 +4,4 @@ mod HearLemmas
 mod JudgeLemmas
 mod StopLemmas
 mod TopLemmas
+mod WorkLemmas

@@ -9,6 +9,7 @@ use Rattle.bgp_update.specs.Heard.{heard}
 use Rattle.bgp_attr.specs.Paths.{width_of}
 use Rattle.bpf_insn.specs.Loading.{load_fault}
 use Rattle.spk_model.specs.Reports.{end_line}
+use Rattle.xbgp_top.specs.declared.command.HostName.{HostName}
 use Rattle.xbgp_top.specs.declared.command.Job.{Job}
 use Rattle.xbgp_top.specs.declared.command.Job.TheVariants.{Heard, Judge, Exec}
 use Rattle.xbgp_top.specs.declared.status.File.TheVariants.{Input}
@@ -17,10 +18,11 @@ use Rattle.xbgp_top.specs.declared.status.Status.TheVariants.{Done, Usage, ReadF
 use Rattle.xbgp_top.specs.declared.status.Status.TheVariants.{BadStream, BadCode}
 use Rattle.xbgp_top.specs.Answers.{Answer, Outcome, ◌>>=◌, alone, answer, check_outcome, command_answer, end_words}
 use Rattle.xbgp_top.specs.Answers.{ended, file_outcome, heard_lines, input, job_outcome, judge_lines, no_helper}
-use Rattle.xbgp_top.specs.Answers.{replay_answer, rest_offset, setup_input}
-use Rattle.xbgp_top.specs.Commands.{Command, check, command_of, on_file, replay}
+use Rattle.xbgp_top.specs.Answers.{replay_answer, rest_offset, rule_of, setup_input}
+use Rattle.xbgp_top.specs.Commands.{Command, check, command_of, on_file, replay, work}
 use Rattle.xbgp_top.specs.Inputs.{Gives, Obtains}
 use Rattle.xbgp_top.specs.Outputs.{Writes}
+use Rattle.xbgp_top.specs.Summaries.{work_text}
 use Rattle.xbgp_top.specs.Top.{Explains, IsAnswered}
 use Rattle.xbgp_top.proofs.StopLemmas.{explains_stopped}
 
@@ -169,6 +171,26 @@ module _ {S K : Type 0} (held : S → Option Files) (reads : S → ℕ) (took : 
       (command_answer (replay config manifest log)) status
   unfolding command_answer
   explains_replay config manifest log e = e
+
+  -- generated events were played, and what came of them was written; the shelf was not asked
+  pub explains_work : (number count : ℕ) (host : HostName) → held shelf_new ≡ held shelf_old
+      → reads shelf_new ≡ reads shelf_old
+      → Writes (ended (Ok (work_text (rule_of host) number count))) took writes sink_old sink_new status
+      → Explains held reads took writes shelf_old shelf_new sink_old sink_new
+      (command_answer (work number count host)) status
+  unfolding command_answer
+  explains_work number count host kept quiet w =
+      let text = work_text (rule_of host) number count in
+      explains_text (λ files. Ok text) text
+      (record {
+        told = λ files e. inl refl;
+        cause = λ none e. absurd (cc e);
+        quiet = λ e. quiet;
+        later = omega (arith, quiet);
+        same = kept;
+        usage = λ e. cc e;
+        write = λ e. cc e;
+      }) w
 
   -- the words' command decides on the answer
   pub explains_command : (words : List (List ℕ)) (command : Command)

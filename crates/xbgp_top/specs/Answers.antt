@@ -1,6 +1,6 @@
 -- The answer to the words of a command line, from the files that are held (this project's own): a status and a text. A
 -- command comes to an outcome: the text of Done, or the status that ends it, which has a text of its own.
-use Rattle.std.specs.Prelude.{ℕ, Bool, false, List, [], ◌∷◌, ◌++◌, length, map, flat_map}
+use Rattle.std.specs.Prelude.{ℕ, Bool, true, false, List, [], ◌∷◌, ◌++◌, length, map, flat_map}
 use Rattle.std.specs.Prelude.{◌==◌, Option, Some, None, Result, Ok, Err, codes, decimal, nat_lt, if◌then◌else◌}
 use Rattle.std.specs.List.{concat}
 use Rattle.std.specs.Result.{result_map_both}
@@ -25,10 +25,15 @@ use Rattle.table_print.specs.Words.{cause_word}
 use Rattle.xbgp_config.specs.Configs.{Config, config}
 use Rattle.xbgp_manifest.specs.Manifests.{Manifest, manifest, no_manifest}
 use Rattle.xb_domain.specs.declared.output.Packing.{Packing}
-use Rattle.xb_domain.specs.declared.output.Packing.TheVariants.{Sorted}
+use Rattle.xb_domain.specs.declared.output.Packing.TheVariants.{Sorted, Grouped}
 use Rattle.spk_model.specs.declared.host.Setup.{Setup}
 use Rattle.spk_model.specs.Playing.{Replayed, replayed}
 use Rattle.spk_model.specs.Reports.{bad_log_line, end_line}
+use Rattle.xbgp_top.specs.Summaries.{count_line, work_text}
+use Rattle.xbgp_top.specs.declared.command.HostName.{HostName}
+use Rattle.xbgp_top.specs.declared.command.HostName.TheVariants.{Interned, Listed}
+use Rattle.xbgp_top.specs.declared.command.Hosts.{Hosts}
+use Rattle.xbgp_top.specs.declared.command.Hosts.TheVariants.{One, Both}
 use Rattle.xbgp_top.specs.declared.input.TheConstants.{INPUT_LIMIT}
 use Rattle.xbgp_top.specs.declared.exec.TheConstants.{FUEL}
 use Rattle.xbgp_top.specs.declared.command.Job.{Job}
@@ -38,7 +43,7 @@ use Rattle.xbgp_top.specs.declared.status.File.TheVariants as inputs
 use Rattle.xbgp_top.specs.declared.status.Status.{Status}
 use Rattle.xbgp_top.specs.declared.status.Status.TheVariants.{Done, Usage, ReadFault, WriteFault, OutOfMemory, TooLong}
 use Rattle.xbgp_top.specs.declared.status.Status.TheVariants.{BadConfig, BadManifest, BadLog, BadStream, BadCode}
-use Rattle.xbgp_top.specs.Commands.{Command, on_file, check, replay, command_of}
+use Rattle.xbgp_top.specs.Commands.{Command, on_file, check, replay, work, command_of}
 use Rattle.xbgp_top.specs.Statuses.{played_status}
 use Rattle.xbgp_top.specs.Words.{file_word, kind_word, load_word, part_word}
 
@@ -176,10 +181,6 @@ job_outcome Heard octets = heard_outcome octets
 job_outcome (Judge wide) octets = judge_outcome (width_of wide) octets
 job_outcome Exec octets = exec_outcome octets
 
--- a word and a count
-abbrev pub count_line : List ℕ → ℕ → List ℕ
-count_line word n = line (word ∷ decimal n ∷ [])
-
 -- what a configuration and a manifest have
 abbrev pub counts : Config → Manifest → List ℕ
 counts config manifest =
@@ -221,11 +222,49 @@ abbrev pub replay_answer : Packing → Outcome Setup → List ℕ → Files → 
 replay_answer rule (Ok setup) log files = replay_done (replayed rule setup log files)
 replay_answer rule (Err status) log files = ended (Err status)
 
+-- how a speaker packs
+abbrev pub rule_of : HostName → Packing
+rule_of Interned = Grouped
+rule_of Listed = Sorted
+
+-- the line with the name of a speaker
+abbrev pub host_line : HostName → List ℕ
+host_line Interned = line (codes "host" ∷ codes "interned" ∷ [])
+host_line Listed = line (codes "host" ∷ codes "listed" ∷ [])
+
+-- whether a status is Done
+abbrev pub is_done : Status → Bool
+is_done Done = true
+is_done status = false
+
+-- an answer, and if it is Done the next one after it
+abbrev pub then_answer : Answer → Answer → Answer
+then_answer first next = if is_done first.status then answered next.status (first.text ++ next.text) else first
+
+-- a title, and then the replay of the log of that name by a speaker that packs by a rule
+abbrev pub titled_replay : List ℕ → Packing → Setup → List ℕ → Files → Answer
+titled_replay title rule setup log files =
+    then_answer (answered Done title) (replay_done (replayed rule setup log files))
+
+-- the replay by each speaker after its name
+abbrev pub both_replays : Setup → List ℕ → Files → Answer
+both_replays setup log files =
+    then_answer (titled_replay (host_line Interned) (rule_of Interned) setup log files)
+    (titled_replay (host_line Listed) (rule_of Listed) setup log files)
+
+-- the replay of the log of that name by speakers, or why there is no speaker
+abbrev pub hosts_answer : Hosts → Outcome Setup → List ℕ → Files → Answer
+hosts_answer (One host) setup log files = replay_answer (rule_of host) setup log files
+hosts_answer Both (Ok setup) log files = both_replays setup log files
+hosts_answer Both (Err status) log files = ended (Err status)
+
 -- what a command comes to, from the files that are held
 unfoldable pub command_answer : Command → Files → Answer
 command_answer (on_file job name) files = ended (file_outcome job name files)
 command_answer (check config manifest) files = ended (check_outcome config manifest files)
-command_answer (replay config manifest log) files = replay_answer Sorted (setup_input config manifest files) log files
+command_answer (replay hosts config manifest log) files =
+    hosts_answer hosts (setup_input config manifest files) log files
+command_answer (work number count host) files = ended (Ok (work_text (rule_of host) number count))
 
 -- the answer to words, from the files that are held; words that are no command are bad usage
 unfoldable pub answer : List (List ℕ) → Files → Answer

@@ -4,8 +4,9 @@
 //! command, as the definition `check_outcome` says.
 ghost use Rattle.std.specs.Prelude.{◌≡◌, ◌+◌, ◌≤◌, ◌++◌, length, codes, IfOk};
 ghost use Rattle.std.specs.Str.{bytes_eq};
-ghost use Rattle.xbgp_top.specs.Answers.{check_outcome, config_input, count_line, counts, manifest_input};
+ghost use Rattle.xbgp_top.specs.Answers.{check_outcome, config_input, counts, manifest_input};
 ghost use Rattle.xbgp_top.specs.Inputs.{Obtains};
+ghost use Rattle.xbgp_top.specs.Summaries.{count_line};
 ghost use Rattle.xbgp_top.specs.Views.{text_view};
 
 use crate::input::read_input;
@@ -31,8 +32,8 @@ pub(crate) fn config_named<S: Shelf>(
     Ok(read_config(alloc, &text)?)
 }
 
-// Whether a name means that there is no manifest.
-fn is_none(name: &str) -> bool
+/// Whether a name means that there is no manifest.
+pub(crate) fn is_none(name: &str) -> bool
     ensures { result ≡ bytes_eq name.now (codes "-") }
 {
     name == "-"
@@ -53,8 +54,8 @@ pub(crate) fn manifest_named<S: Shelf>(
     Ok(read_manifest(alloc, &text)?)
 }
 
-// Appends a word and a count.
-fn append_count(text: &mut Buf, word: &[u8], count: u64)
+/// Appends a word and a count.
+pub(crate) fn append_count(text: &mut Buf, word: &[u8], count: u64)
     requires room { length text.old.octets + 32 ≤ text.old.capacity }
     requires short { length word.now ≤ 8 }
     ensures line { text.new ≡ record text.old { octets = text.old.octets ++ count_line word.now count } }

@@ -1,8 +1,13 @@
 //! The commands of the program, read from the words of the command line.
 ghost use Rattle.std.specs.Prelude.{◌≡◌, map, string_bytes};
 ghost use Rattle.std.specs.Option.{option_map};
-ghost use Rattle.xbgp_top.specs.Commands.{command_of, job_of};
+ghost use Rattle.xbgp_top.specs.Commands.{command_of, count_of, host_of, hosts_of, job_of, work_of};
 ghost use Rattle.xbgp_top.specs.Views.{command_view};
+
+use xb_values::read_decimal;
+
+/// The most updates that may be asked for.
+pub(crate) const MAX_UPDATES: u64 = 100_000;
 
 /// What is asked about one file that is read whole.
 #[derive(Clone, Copy, Debug, PartialEq, Eq)]
@@ -13,13 +18,30 @@ pub(crate) enum Job {
     Exec,
 }
 
+/// A speaker, by the word for it.
+#[derive(Clone, Copy, Debug, PartialEq, Eq)]
+pub(crate) enum HostName {
+    Interned,
+    Listed,
+}
+
+/// The speakers of a replay.
+#[derive(Clone, Copy, Debug, PartialEq, Eq)]
+pub(crate) enum Hosts {
+    One(HostName),
+    /// `interned` first, then `listed`.
+    Both,
+}
+
 /// What the words of the command line ask for.
 #[derive(Clone, Copy, Debug)]
 pub(crate) enum Command<'a> {
     File(Job, &'a str),
     Check(&'a str, &'a str),
-    /// The names of a configuration, a manifest and a log.
-    Replay(&'a str, &'a str, &'a str),
+    /// The speakers, and the names of a configuration, a manifest and a log.
+    Replay(Hosts, &'a str, &'a str, &'a str),
+    /// The number that events are generated from, how many updates, and the speaker that takes them.
+    Work(u64, u32, HostName),
 }
 
 // The job that a word names.
@@ -39,6 +61,52 @@ fn job_in(word: &str) -> Option<Job>
     }
 }
 
+// The speaker that a word names.
+fn host_in(word: &str) -> Option<HostName>
+    ensures { result ≡ host_of word.now }
+{
+    if word == "interned" {
+        Some(HostName::Interned)
+    } else if word == "listed" {
+        Some(HostName::Listed)
+    } else {
+        None
+    }
+}
+
+// The speakers that a word names.
+fn hosts_in(word: &str) -> Option<Hosts>
+    ensures { result ≡ hosts_of word.now }
+{
+    if word == "both" {
+        return Some(Hosts::Both);
+    }
+    let host = host_in(word)?;
+    Some(Hosts::One(host))
+}
+
+// How many updates a word asks for.
+fn count_in(word: &str) -> Option<u32>
+    ensures { result ≡ count_of word.now }
+{
+    let count = read_decimal(word.as_bytes())?;
+    if count > MAX_UPDATES {
+        None
+    } else {
+        Some(count as u32)
+    }
+}
+
+// The command of generated events.
+fn work_in(number: &str, count: &str, host: &str) -> Option<Command<'static>>
+    ensures { option_map command_view result ≡ work_of number.now count.now host.now }
+{
+    let number = read_decimal(number.as_bytes())?;
+    let count = count_in(count)?;
+    let host = host_in(host)?;
+    Some(Command::Work(number, count, host))
+}
+
 /// The command that the words are, without the program's own name.
 pub(crate) fn command_in(words: &[String]) -> Option<Command<'_>>
     ensures { option_map command_view result ≡ command_of (map string_bytes words.now) }
@@ -51,9 +119,12 @@ pub(crate) fn command_in(words: &[String]) -> Option<Command<'_>>
         [word, config, manifest] if word.as_str() == "check" => {
             Some(Command::Check(config.as_str(), manifest.as_str()))
         }
-        [word, host, config, manifest, log]
-            if word.as_str() == "replay" && host.as_str() == "listed" => {
-            Some(Command::Replay(config.as_str(), manifest.as_str(), log.as_str()))
+        [word, number, count, host] if word.as_str() == "work" => {
+            work_in(number.as_str(), count.as_str(), host.as_str())
+        }
+        [word, hosts, config, manifest, log] if word.as_str() == "replay" => {
+            let hosts = hosts_in(hosts.as_str())?;
+            Some(Command::Replay(hosts, config.as_str(), manifest.as_str(), log.as_str()))
         }
         _ => None,
     }

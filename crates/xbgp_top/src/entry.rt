@@ -1,20 +1,24 @@
 //! The top call: the words' command is found, its inputs are read, and its answer is written.
-ghost use Rattle.std.specs.Prelude.{◌≡◌, ◌≢◌, ◌≤◌, ◌⊎◌, Some, map, string_bytes};
+ghost use Rattle.std.specs.Prelude.{◌≡◌, ◌≢◌, ◌≤◌, ◌⊎◌, Ok, Some, map, string_bytes};
 ghost use Rattle.xb_io.specs.Causes.{Files, FaultsRose, TookFront};
-ghost use Rattle.xbgp_top.specs.Answers.{answer, command_answer, ended, job_outcome};
+ghost use Rattle.xbgp_top.specs.Answers.{answer, command_answer, ended, job_outcome, rule_of};
 ghost use Rattle.xbgp_top.specs.Commands.{check, command_of, on_file, replay};
 ghost use Rattle.xbgp_top.specs.Outputs.{Writes};
+ghost use Rattle.xbgp_top.specs.Summaries.{work_text};
 ghost use Rattle.xbgp_top.specs.Top.{Explains, IsAnswered, IsUsage, SaysMissing};
 
+use crate::both::replay_both;
 use crate::check::check;
-use crate::command::{Command, Job, command_in};
+use crate::command::{Command, HostName, Hosts, Job, command_in};
 use crate::exec::exec;
 use crate::hear::print_heard;
 use crate::input::read_input;
 use crate::judge::print_judged;
 use crate::output::{USAGE_LINE, print_text, refuse, write_all};
 use crate::replay::replay_on;
+use crate::work::work_on;
 use crate::{File, Status};
+use host_interned::Interned;
 use host_listed::Listed;
 use std::alloc::Global;
 use xb_io::{Shelf, Sink};
@@ -64,20 +68,47 @@ fn check_files<S: Shelf, K: Sink>(
     print_text(alloc, text, sink)
 }
 
-// Replays a log on the speaker that keeps lists.
+// Replays a log on speakers.
 fn replay_files<S: Shelf, K: Sink>(
     alloc: Global,
+    hosts: Hosts,
     config: &str,
     manifest: &str,
     log: &str,
     shelf: &mut S,
     sink: &mut K,
 ) -> Status
-    ensures explains { let told = command_answer (replay config.now manifest.now log.now) in
+    ensures explains { let told = command_answer (replay hosts config.now manifest.now log.now) in
         Explains S.held S.faults K.took K.faults shelf.old shelf.new sink.old sink.new told result }
     ensures command { result ≢ Status.Usage }
 {
-    replay_on::<Listed, S, K>(alloc, config, manifest, log, shelf, sink)
+    match hosts {
+        Hosts::One(HostName::Interned) => {
+            replay_on::<Interned, S, K>(alloc, config, manifest, log, shelf, sink)
+        }
+        Hosts::One(HostName::Listed) => {
+            replay_on::<Listed, S, K>(alloc, config, manifest, log, shelf, sink)
+        }
+        Hosts::Both => replay_both(alloc, config, manifest, log, shelf, sink),
+    }
+}
+
+// Has a speaker take generated events, and writes what came of them. No file is read.
+fn play_work<K: Sink>(
+    alloc: Global,
+    number: u64,
+    count: u32,
+    host: HostName,
+    sink: &mut K,
+) -> Status
+    ensures { let told = ended (Ok (work_text (rule_of host) number count)) in
+        Writes told K.took K.faults sink.old sink.new result }
+{
+    let text = match host {
+        HostName::Interned => work_on::<Interned>(alloc, number, count),
+        HostName::Listed => work_on::<Listed>(alloc, number, count),
+    };
+    print_text(alloc, text, sink)
 }
 
 /// Does what the words of the command line say, without the program's own name, over the files of the shelf, and writes
@@ -118,8 +149,9 @@ pub fn run<S: Shelf, K: Sink>(
         None => write_all(sink, USAGE_LINE, Status::Usage),
         Some(Command::File(job, name)) => ask_file(alloc, job, name, shelf, sink),
         Some(Command::Check(config, manifest)) => check_files(alloc, config, manifest, shelf, sink),
-        Some(Command::Replay(config, manifest, log)) => {
-            replay_files(alloc, config, manifest, log, shelf, sink)
+        Some(Command::Replay(hosts, config, manifest, log)) => {
+            replay_files(alloc, hosts, config, manifest, log, shelf, sink)
         }
+        Some(Command::Work(number, count, host)) => play_work(alloc, number, count, host, sink),
     }
 }
