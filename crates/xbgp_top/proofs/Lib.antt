@@ -3,5 +3,6 @@ mod OutputLemmas
 mod HearLemmas
 mod JudgeLemmas
 mod StopLemmas
+mod ThenLemmas
 mod TopLemmas
 mod WorkLemmas

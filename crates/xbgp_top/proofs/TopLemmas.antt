@@ -4,12 +4,12 @@ use Rattle.std.proofs.Common.{inl, inr, arith}
 use Rattle.std.specs.Result.{IfErr}
 use Rattle.xb_values.specs.Texts.{line}
 use Rattle.xb_io.specs.Causes.{Files, FaultsRose, TookFront}
-use Rattle.xb_domain.specs.declared.output.Packing.TheVariants.{Sorted}
 use Rattle.bgp_update.specs.Heard.{heard}
 use Rattle.bgp_attr.specs.Paths.{width_of}
 use Rattle.bpf_insn.specs.Loading.{load_fault}
 use Rattle.spk_model.specs.Reports.{end_line}
 use Rattle.xbgp_top.specs.declared.command.HostName.{HostName}
+use Rattle.xbgp_top.specs.declared.command.Hosts.{Hosts}
 use Rattle.xbgp_top.specs.declared.command.Job.{Job}
 use Rattle.xbgp_top.specs.declared.command.Job.TheVariants.{Heard, Judge, Exec}
 use Rattle.xbgp_top.specs.declared.status.File.TheVariants.{Input}
@@ -18,7 +18,7 @@ use Rattle.xbgp_top.specs.declared.status.Status.TheVariants.{Done, Usage, ReadF
 use Rattle.xbgp_top.specs.declared.status.Status.TheVariants.{BadStream, BadCode}
 use Rattle.xbgp_top.specs.Answers.{Answer, Outcome, ◌>>=◌, alone, answer, check_outcome, command_answer, end_words}
 use Rattle.xbgp_top.specs.Answers.{ended, file_outcome, heard_lines, input, job_outcome, judge_lines, no_helper}
-use Rattle.xbgp_top.specs.Answers.{replay_answer, rest_offset, rule_of, setup_input}
+use Rattle.xbgp_top.specs.Answers.{hosts_answer, rest_offset, rule_of, setup_input}
 use Rattle.xbgp_top.specs.Commands.{Command, check, command_of, on_file, replay, work}
 use Rattle.xbgp_top.specs.Inputs.{Gives, Obtains}
 use Rattle.xbgp_top.specs.Outputs.{Writes}
@@ -77,7 +77,7 @@ module _ {S : Type 0} (held : S → Option Files) (faults : S → ℕ) (old new 
 module _ {S K : Type 0} (held : S → Option Files) (reads : S → ℕ) (took : K → Option (List ℕ)) (writes : K → ℕ)
     (shelf_old shelf_new : S) (sink_old sink_new : K) (status : Status) where
   -- a step over the shelf gave a text, which was written to the sink
-  explains_text : (want : Files → Outcome (List ℕ)) (text : List ℕ)
+  pub explains_text : (want : Files → Outcome (List ℕ)) (text : List ℕ)
       → Obtains held reads shelf_old shelf_new want (Ok text)
       → Writes (ended (Ok text)) took writes sink_old sink_new status
       → Explains held reads took writes shelf_old shelf_new sink_old sink_new (λ files. ended (want files)) status
@@ -163,14 +163,14 @@ module _ {S K : Type 0} (held : S → Option Files) (reads : S → ℕ) (took : 
   unfolding command_answer
   explains_check config manifest got o w unread = explains_writes (check_outcome config manifest) got o w unread
 
-  -- the replay on a speaker that packs by order is the command's
-  pub explains_replay : (config manifest log : List ℕ)
+  -- the replay on speakers is the command's
+  pub explains_replay : (hosts : Hosts) (config manifest log : List ℕ)
       → Explains held reads took writes shelf_old shelf_new sink_old sink_new
-      (λ files. replay_answer Sorted (setup_input config manifest files) log files) status
+      (λ files. hosts_answer hosts (setup_input config manifest files) log files) status
       → Explains held reads took writes shelf_old shelf_new sink_old sink_new
-      (command_answer (replay config manifest log)) status
+      (command_answer (replay hosts config manifest log)) status
   unfolding command_answer
-  explains_replay config manifest log e = e
+  explains_replay hosts config manifest log e = e
 
   -- generated events were played, and what came of them was written; the shelf was not asked
   pub explains_work : (number count : ℕ) (host : HostName) → held shelf_new ≡ held shelf_old

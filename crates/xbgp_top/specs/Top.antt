@@ -2,7 +2,7 @@
 use Rattle.std.specs.Prelude.{◌≡◌, ◌≢◌, ◌⊎◌, ℕ, ◌≤◌, List, Option, Some, None}
 use Rattle.xb_io.specs.Causes.{Files, FaultsRose, TookFront, with_text}
 use Rattle.xbgp_top.specs.declared.status.Status.{Status}
-use Rattle.xbgp_top.specs.declared.status.Status.TheVariants.{Usage, ReadFault, WriteFault, OutOfMemory}
+use Rattle.xbgp_top.specs.declared.status.Status.TheVariants.{Done, Usage, ReadFault, WriteFault, OutOfMemory}
 use Rattle.xbgp_top.specs.Answers.{Answer, fault_text}
 use Rattle.xbgp_top.specs.Commands.{Command}
 
@@ -10,6 +10,12 @@ use Rattle.xbgp_top.specs.Commands.{Command}
 abbrev pub IsAnswered : Answer → Option (List ℕ) → Option (List ℕ) → Status → Type 0
 IsAnswered answer before now status =
     (status ≡ answer.status) × (status ≢ ReadFault → now ≡ with_text before answer.text)
+
+-- the answer is Done, by the files of a shelf that tells, and its whole text was taken
+abbrev pub WasDone : Option Files → Option (List ℕ) → Option (List ℕ) → (Files → Answer) → Type 0
+WasDone held before now answer =
+    (files : Files) → held ≡ Some files
+    → ((answer files).status ≡ Done) × (now ≡ with_text before (answer files).text)
 
 -- words that are no command give Usage with its line, unless the sink failed; a command never gives Usage
 abbrev pub IsUsage : Option Command → Option (List ℕ) → Option (List ℕ) → Status → Type 0

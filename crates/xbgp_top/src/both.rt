@@ -8,7 +8,7 @@ ghost use Rattle.xb_io.specs.Causes.{Files};
 ghost use Rattle.xbgp_top.specs.Answers.{both_replays, hosts_answer, manifest_input, setup_input, titled_replay};
 ghost use Rattle.xbgp_top.specs.Inputs.{Gives, Obtains};
 ghost use Rattle.xbgp_top.specs.Kept.{manifest_of, manifest_view, option_octets, setup_of, setup_view};
-ghost use Rattle.xbgp_top.specs.Top.{Explains};
+ghost use Rattle.xbgp_top.specs.Top.{Explains, WasDone};
 ghost use Rattle.xbgp_top.specs.declared.command.Hosts.TheVariants.{Both};
 
 use crate::check::is_none;
@@ -106,6 +106,8 @@ fn replay_titled<H: Host, S: Shelf, K: Sink>(
 ) -> Status
     ensures explains { let told = titled_replay title.now H.RULE setup log.now in
         Explains S.held S.faults K.took K.faults shelf.old shelf.new sink.old sink.new told result }
+    ensures done { let told = titled_replay title.now H.RULE setup log.now in
+        result ≡ Status.Done → WasDone (S.held shelf.old) (K.took sink.old) (K.took sink.new) told }
     ensures command { result ≢ Status.Usage }
     ensures same { S.held shelf.new ≡ S.held shelf.old }
 {
