@@ -1,5 +1,5 @@
 -- Generated events that are played one after another, and the octets that are counted.
-use Rattle.std.proofs.Common.{◌≡◌, ℕ, ◌+◌, List, [], ◌∷◌, ◌++◌, drop, Some, refl, ap}
+use Rattle.std.proofs.Common.{◌≡◌, ℕ, ◌+◌, List, [], ◌∷◌, ◌++◌, drop, Some, None, refl, sym, ◌∙◌, ap}
 use Rattle.std.specs.Prelude.{fold}
 use Rattle.xb_words.specs.Table.{first_of}
 use Rattle.xb_domain.specs.declared.output.Packing.{Packing}
@@ -28,3 +28,21 @@ pub counted_all-append : (counts : List ℕ) (first others : List Output)
     → counted_all counts (first ++ others) ≡ counted_all (counted_all counts first) others
 counted_all-append counts [] others = refl
 counted_all-append counts (o ∷ first) others = counted_all-append _ first others
+
+-- a history of no events
+pub history-none : (rule : Packing) (setup : Setup) (s : Speaker) (es : List Event) → None ≡ first_of es
+    → history rule setup s es ≡ record { speaker = s; outputs = [] }
+unfolding history
+history-none rule setup s [] is = refl
+history-none rule setup s (x ∷ es) is = absurd (cc is)
+
+-- a history goes on after its first event, which a host of the same setup took
+pub history_then : (rule : Packing) (built setup : Setup) (s next : Speaker) (es rest : List Event) (e : Event)
+    → built ≡ setup → Some e ≡ first_of es → rest ≡ drop 1 es → next ≡ (event rule built s e).speaker
+    → history rule setup s es ≡ first_then (event rule built s e) (history rule setup next rest)
+history_then rule built setup s next es rest e same first left after =
+    history-first rule setup s es e (sym first)
+    ∙ ap (λ (x : Setup). first_then (event rule x s e) (history rule setup (event rule x s e).speaker (drop 1 es)))
+    (sym same)
+    ∙ ap (λ (x : Speaker). first_then (event rule built s e) (history rule setup x (drop 1 es))) (sym after)
+    ∙ ap (λ (l : List Event). first_then (event rule built s e) (history rule setup next l)) (sym left)
