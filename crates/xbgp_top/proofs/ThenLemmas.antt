@@ -154,12 +154,12 @@ module _ {S K : Type 0} (held : S → Option Files) (reads : S → ℕ) (took : 
 
   -- the replay of a log explains how it ended
   pub explains_played : (shelf_old shelf_new : S) (sink_old sink_new : K) (name : List ℕ) (replay : Files → Replayed)
-      (played : Played) → ((files : Files) → IsMissing (Some files) name → (replay files).played ≡ ends.ReadFault)
+      (played : Played) (status : Status) → status ≡ played_status played → ((files : Files) → IsMissing (Some files) name → (replay files).played ≡ ends.ReadFault)
       → Plays held reads took writes shelf_old shelf_new sink_old sink_new name replay played
-      → Explains held reads took writes shelf_old shelf_new sink_old sink_new (λ files. replay_done (replay files))
-      (played_status played)
-  explains_played shelf_old shelf_new sink_old sink_new name replay played none p =
-      record {
+      → Explains held reads took writes shelf_old shelf_new sink_old sink_new (λ files. replay_done (replay files)) status
+  explains_played shelf_old shelf_new sink_old sink_new name replay played status ends_so none p =
+      subst (λ (s : Status). Explains held reads took writes shelf_old shelf_new sink_old sink_new
+      (λ files. replay_done (replay files)) s) (sym ends_so) (record {
         exact = λ files e a b memory.
             let is = p.exact files e a b (λ m. memory (ap played_status m)) in
             (ap played_status is.0, λ read. is.1 (λ m. read (ap played_status m)));
@@ -174,7 +174,7 @@ module _ {S K : Type 0} (held : S → Option Files) (reads : S → ℕ) (took : 
         quiet_sink = λ write memory. p.quiet_sink (λ m. write (ap played_status m)) (λ m. memory (ap played_status m));
         later_shelf = p.later_shelf;
         later_sink = p.later_sink;
-      }
+      })
     where
       by : (h : Option Files) → IsMissing h name → SaysMissing h (λ files. replay_done (replay files))
       by None missing = missing

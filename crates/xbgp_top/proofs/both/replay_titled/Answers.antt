@@ -31,11 +31,8 @@ returns-in-Done-clause-explains g c =
     (λ files. answered Done c.args.title.now) (λ files. replay_done (played files)) c.from.result
     (λ files has. (refl, c.in-Done.ensures.writes.whole (λ e. cc e) (λ e. cc e))) refl refl
     (c.in-Done.ensures.writes.quiet (λ e. cc e) (λ e. cc e))
-    (subst (λ (s : Status). Explains g.S.Shelf.held g.S.Shelf.faults g.K.Sink.took g.K.Sink.faults c.args.shelf.now
-    c.replay.new.shelf c.write_all.new.sink c.replay.new.sink (λ files. replay_done (played files)) s)
-    (sym c.from.ensures)
     (explains_played g.S.Shelf.held g.S.Shelf.faults g.K.Sink.took g.K.Sink.faults _ _ _ _ c.args.log.now played
-    c.replay.result (missing_played g.H.Host.RULE c.args.setup c.args.log.now) plays))
+    c.replay.result c.from.result c.from.ensures (missing_played g.H.Host.RULE c.args.setup c.args.log.now) plays)
 
 pub returns-in-Done-clause-done : goal.returns-in-Done-clause-done
 returns-in-Done-clause-done g c = λ done.
