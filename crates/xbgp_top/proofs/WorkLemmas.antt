@@ -7,7 +7,7 @@ use Rattle.xb_domain.specs.Events.{Event}
 use Rattle.xb_domain.specs.Outputs.{Output}
 use Rattle.spk_model.specs.declared.host.Setup.{Setup}
 use Rattle.spk_model.specs.Turning.{Speaker, Happened, event, history}
-use Rattle.xbgp_top.specs.Summaries.{counted_all}
+use Rattle.xbgp_top.specs.Summaries.{counted, counted_all}
 
 -- what happens at the first event, and then at those after it
 abbrev pub first_then : Happened → Happened → Happened
@@ -26,8 +26,12 @@ history-first rule setup s (x ∷ es) e is =
 -- outputs are counted one list after another
 pub counted_all-append : (counts : List ℕ) (first others : List Output)
     → counted_all counts (first ++ others) ≡ counted_all (counted_all counts first) others
-counted_all-append counts [] others = refl
-counted_all-append counts (o ∷ first) others = counted_all-append _ first others
+counted_all-append counts first others = by first others counts
+  where
+    by : (first others : List Output) (counts : List ℕ)
+        → counted_all counts (first ++ others) ≡ counted_all (counted_all counts first) others
+    by [] others counts = refl
+    by (o ∷ first) others counts = by first others (counted counts o)
 
 -- a history of no events
 pub history-none : (rule : Packing) (setup : Setup) (s : Speaker) (es : List Event) → None ≡ first_of es
