@@ -1,8 +1,8 @@
 -- Generated events that are played one after another, and the octets that are counted.
-use Rattle.std.proofs.Common.{◌≡◌, ℕ, zero, suc, ◌+◌, ◌-◌, ◌*◌, ◌^◌, ◌<◌, ◌≤◌, min, true, false, inl, inr, List, []}
-use Rattle.std.proofs.Common.{◌∷◌, ◌++◌, length, drop, map, flat_map, Option, Some, None, refl, sym, ◌∙◌, ap, subst, arith}
-use Rattle.std.proofs.Common.{append_assoc, length-append, slice_set}
-use Rattle.std.specs.Prelude.{Bool, codes, fold, ◌==◌, if◌then◌else◌}
+use Rattle.std.proofs.Common.{◌≡◌, ℕ, suc, ◌+◌, ◌-◌, ◌*◌, ◌^◌, ◌<◌, ◌≤◌, min, inl, inr, List, [], ◌∷◌, ◌++◌, length}
+use Rattle.std.proofs.Common.{drop, map, flat_map, Option, Some, None, refl, sym, ◌∙◌, ap, subst, arith, append_assoc}
+use Rattle.std.proofs.Common.{length-append, slice_set}
+use Rattle.std.specs.Prelude.{Bool, codes, fold, if◌then◌else◌}
 use Rattle.std.specs.Cmp.{IsTotalOrder}
 use Rattle.std.specs.List.{slice_index_or}
 use Rattle.std.specs.declared.cmp.Ordering.{Ordering}
@@ -17,6 +17,7 @@ use Rattle.xb_domain.specs.Events.{Event}
 use Rattle.xb_domain.specs.Outputs.{Output, came_up, went_down, sent}
 use Rattle.xbgp_config.specs.WorkConfig.{work_peers}
 use Rattle.work_gen.specs.Work.{work_events}
+use Rattle.work_gen.proofs.WorkLemmas.{drop-work_peers}
 use Rattle.spk_model.specs.declared.host.Setup.{Setup}
 use Rattle.spk_model.specs.Reports.{end_line}
 use Rattle.spk_model.specs.Routing.{tables_of}
@@ -125,10 +126,11 @@ counted_at counts (came_up q) p n within is = is ∙ ap capped (none_more n)
 counted_at counts (went_down q) p n within is = is ∙ ap capped (none_more n)
 counted_at counts (sent q octets) p n within is =
     let new = capped (slice_index_or counts q 0 + length octets) in
-    elim (eqb_tells p q) as (λ _. slice_index_or (slice_set counts q new) p 0 ≡ capped (n + octets_to p (sent q octets))) [
+    elim (eqb_tells p q)
+    as (λ _. slice_index_or (slice_set counts q new) p 0 ≡ capped (n + octets_to p (sent q octets))) [
       | inl same ↦
           let its : octets_to p (sent q octets) ≡ length octets =
-              ap (λ (b : Bool). if b then length octets else 0) same.0 in
+          ap (λ (b : Bool). if b then length octets else 0) same.0 in
           get_or-set_at counts q p new 0 same.1 (subst (λ (k : ℕ). k < length counts) same.1 within)
           ∙ ap (λ (k : ℕ). capped (slice_index_or counts k 0 + length octets)) (sym same.1)
           ∙ ap (λ (k : ℕ). capped (k + length octets)) is
@@ -136,7 +138,7 @@ counted_at counts (sent q octets) p n within is =
           ∙ ap (λ (k : ℕ). capped (n + k)) (sym its)
       | inr other ↦
           let its : octets_to p (sent q octets) ≡ 0 =
-              ap (λ (b : Bool). if b then length octets else 0) other.0 in
+          ap (λ (b : Bool). if b then length octets else 0) other.0 in
           get_or-set_other counts q p new 0 other.1
           ∙ is ∙ ap capped (none_more n) ∙ ap (λ (k : ℕ). capped (n + k)) (sym its)
     ]
@@ -202,9 +204,9 @@ pub work_shown : (rule : Packing) (number count : ℕ) (setup : Setup) (first la
 unfolding work_text
 work_shown rule number count setup first last work counts text same begins events speaker outputs is =
     let played : history rule work_setup first work
-        ≡ history rule work_setup (start_of work_setup) (work_events number count) =
-        ap (λ (s : Speaker). history rule work_setup s work) (begins ∙ ap start_of same)
-        ∙ ap (history rule work_setup (start_of work_setup)) events in
+    ≡ history rule work_setup (start_of work_setup) (work_events number count) =
+    ap (λ (s : Speaker). history rule work_setup s work) (begins ∙ ap start_of same)
+    ∙ ap (history rule work_setup (start_of work_setup)) events in
     lines_of_played count (history rule work_setup (start_of work_setup) (work_events number count)) last counts text
     (speaker ∙ ap (λ (h : Happened). h.speaker) played)
     (outputs ∙ ap (λ (h : Happened). counted_all no_counts h.outputs) played) is
@@ -233,14 +235,6 @@ pub room_for : (first new : Buffer) (n k all : ℕ) → IsLonger first n new →
     → length first.octets + all ≤ first.capacity → length new.octets + k ≤ new.capacity
 room_for first new n k all grown less room = omega (arith, grown.0, grown.1, less, room)
 
--- the peers from one on
-peers_from : (i : ℕ) → i < 4 → drop i work_peers ≡ (i + 1) ∷ drop (i + 1) work_peers
-peers_from zero less = refl
-peers_from (suc zero) less = refl
-peers_from (suc (suc zero)) less = refl
-peers_from (suc (suc (suc zero))) less = refl
-peers_from (suc (suc (suc (suc i)))) less = absurd (omega (arith, less))
-
 -- the line of the next peer was appended
 pub peer_appended : (s : Speaker) (f : ℕ → ℕ) (i : ℕ) (old new : Buffer) (advertised octets : ℕ) (whole : List ℕ)
     → i < 4 → new ≡ record old { octets = old.octets ++ shown_peer_line (i + 1) advertised octets }
@@ -250,13 +244,13 @@ pub peer_appended : (s : Speaker) (f : ℕ → ℕ) (i : ℕ) (old new : Buffer)
 peer_appended s f i old new advertised octets whole less is known counts so_far =
     let rest = flat_map (peer_line s f) (drop (i + 1) work_peers) in
     let same : shown_peer_line (i + 1) advertised octets ≡ peer_line s f (i + 1) =
-        ap (λ (n : ℕ). shown_peer_line (i + 1) n octets) known
-        ∙ ap (λ (n : ℕ). shown_peer_line (i + 1) (capped (length (tables_of s.routing (i + 1)).adv)) n) counts in
+    ap (λ (n : ℕ). shown_peer_line (i + 1) n octets) known
+    ∙ ap (λ (n : ℕ). shown_peer_line (i + 1) (capped (length (tables_of s.routing (i + 1)).adv)) n) counts in
     ap (λ (b : Buffer). b.octets ++ (rest ++ end_line)) is
     ∙ append_assoc old.octets (shown_peer_line (i + 1) advertised octets) (rest ++ end_line)
     ∙ ap (λ (l : List ℕ). old.octets ++ (l ++ (rest ++ end_line))) same
     ∙ ap (λ (l : List ℕ). old.octets ++ l) (sym (append_assoc (peer_line s f (i + 1)) rest end_line))
-    ∙ ap (λ (l : List ℕ). old.octets ++ (flat_map (peer_line s f) l ++ end_line)) (sym (peers_from i less))
+    ∙ ap (λ (l : List ℕ). old.octets ++ (flat_map (peer_line s f) l ++ end_line)) (sym (drop-work_peers i less))
     ∙ so_far
 
 -- there is room for the lines of the other peers
