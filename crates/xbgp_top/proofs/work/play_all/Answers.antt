@@ -1,10 +1,10 @@
-use Rattle.std.proofs.Common.{◌≡◌, ◌++◌, ◌∙◌, rules, List, ℕ, refl, sym, ap, subst}
+use Rattle.std.proofs.Common.{◌≡◌, ◌++◌, ◌∙◌, rules, List, ℕ, sym, ap, subst}
 use Rattle.xb_domain.specs.Events.{Event}
 use Rattle.xb_domain.specs.Outputs.{Output}
 use Rattle.xb_domain.specs.Views.{event_view}
 use Rattle.spk_model.specs.declared.host.Setup.{Setup}
 use Rattle.spk_model.specs.Readers.{AreConfigured}
-use Rattle.spk_model.specs.Turning.{Speaker, Happened, event, history}
+use Rattle.spk_model.specs.Turning.{Happened, event, history}
 use Rattle.xbgp_top.specs.Summaries.{counted_all, work_setup}
 use Rattle.xbgp_top.proofs.WorkLemmas.{counted_all-append, first_then, history-none, history_then}
 use Rattle.xbgp_top.proofs.work.play_all.Goals as goal
