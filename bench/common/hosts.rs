@@ -1,8 +1,8 @@
 //! Runs a program and its yardstick in turn on both hosts, and prints the median time and the peak memory of each.
 //!
-//! `hosts ROUNDS REPEATS PROGRAM YARDSTICK WORDS..`. The word that is `@` stands for the host. In each turn both programs
-//! run on `listed` and then on `interned`; a round is REPEATS turns, its times are medians, and the times that are
-//! printed are the medians of the rounds. Without a yardstick its word is `-`. A line is printed for each host: its
+//! `hosts ROUNDS REPEATS PROGRAM YARDSTICK WORDS..`. The word that is `@` stands for the host. In each turn both
+//! programs run on `listed` and then on `interned`; a round is REPEATS turns, its times are medians, and the times that
+//! are printed are the medians of the rounds. Without a yardstick its word is `-`. A line is printed for each host: its
 //! name, then milliseconds and KiB of the program, and those of the yardstick if there is one.
 //!
 //! Whole processes are measured, from before their start to after their end. What they write goes to /dev/null. Peak

@@ -504,8 +504,8 @@ impl Speaker {
         Ok(())
     }
 
-    /// Notes that a peer is told all that waits for it. Returns the prefixes to withdraw, and those to announce with their
-    /// sections, both by rising order.
+    /// Notes that a peer is told all that waits for it. Returns the prefixes to withdraw, and those to announce with
+    /// their sections, both by rising order.
     fn take_pending(&mut self, peer: usize) -> (Vec<Prefix>, Vec<(Prefix, Rc<[u8]>)>) {
         let (mut gone, mut kept) = (Vec::new(), Vec::new());
         for prefix in std::mem::take(&mut self.peers[peer].pending) {
@@ -640,7 +640,8 @@ fn split<'a>(section: &'a [u8], mut prefixes: Vec<Prefix>, messages: &mut Vec<An
     }
 }
 
-/// Writes an UPDATE that withdraws the prefixes, if the section is empty, or announces them. Returns those that didn't fit.
+/// Writes an UPDATE that withdraws the prefixes, if the section is empty, or announces them. Returns those that
+/// didn't fit.
 fn write_message<'a>(wire: &mut Vec<u8>, section: &[u8], prefixes: &'a [Prefix]) -> &'a [Prefix] {
     let (named, rest) = prefixes.split_at(fitting(section, prefixes.iter().copied()));
     let octets: usize = named.iter().map(|prefix| width(*prefix)).sum();

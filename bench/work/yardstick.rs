@@ -1,6 +1,6 @@
 //! The yardstick of `xbgp work NUMBER COUNT HOST`: the same events, the same decision and the same packing in plain
-//! Rust, with the same text. There are no sessions and no programs: an UPDATE is read from its octets, decided, exported
-//! to the four peers and packed for them at each drain.
+//! Rust, with the same text. There are no sessions and no programs: an UPDATE is read from its octets, decided,
+//! exported to the four peers and packed for them at each drain.
 //!
 //! All prefixes are 172.16.0.0/24 to 172.31.255.0/24, so tables are arrays that a prefix's two middle octets index.
 //! `yardstick log NUMBER COUNT` writes the same events as a log instead.
@@ -179,8 +179,8 @@ impl Told {
         self.advertised[prefix] = section;
     }
 
-    /// Notes that all is told that waits. Returns the prefixes to withdraw, and those to announce with their sections, both
-    /// by rising order.
+    /// Notes that all is told that waits. Returns the prefixes to withdraw, and those to announce with their sections,
+    /// both by rising order.
     fn take_pending(&mut self) -> (Vec<usize>, Vec<(usize, Rc<[u8]>)>) {
         let (mut gone, mut kept) = (Vec::new(), Vec::new());
         for prefix in std::mem::take(&mut self.pending) {
