@@ -1,10 +1,10 @@
 //! Writes to standard output, the same at each run: `logs config` a configuration at its limits, with 64 peers, 1,024
 //! local networks and 1,024 interior costs; `logs log PREFIXES OCTETS` an event log for it of at most so many octets.
 //!
-//! One peer in four is internal. After the sessions have come up each UPDATE comes from a peer that is drawn. It
-//! announces the next one of so many prefixes, again and again, with the attributes of a route from a large network and
-//! one more that no speaker knows; one UPDATE in nine withdraws a prefix. All peers are drained after every thousandth
-//! UPDATE and at the end. At 671 octets a prefix, as in run, each prefix is announced once and some are twice.
+//! One peer in four is internal. After the sessions have come up each UPDATE announces the next one of so many
+//! prefixes, again and again, from a peer that is drawn, with the attributes of a route from a large network and one
+//! more that no speaker knows; one UPDATE in 32 withdraws a prefix in its place. All peers are drained after every
+//! thousandth UPDATE and at the end. At 671 octets a prefix, as in run, each prefix is announced once, some twice.
 
 #[allow(dead_code)]
 #[path = "../common/making.rs"]
@@ -55,31 +55,62 @@ fn prefix(number: u32) -> Vec<u8> {
     spelled(&[Prefix { addr: 1 << 28 | number << 8, len: 24 }])
 }
 
-fn next_update(draws: &mut Draws, announced: &mut u32, prefixes: u32) -> Vec<u8> {
-    if draws.one_in(9) {
-        return update(&prefix(draws.below(prefixes)), &[], &[]);
+/// Draws UPDATEs, each with its peer.
+struct Maker {
+    draws: Draws,
+    prefixes: u32,
+    announced: u32,
+    /// The last peer that announced each prefix so far.
+    sources: Vec<u32>,
+}
+
+impl Maker {
+    fn withdrawal(&mut self) -> (u32, Vec<u8>) {
+        let number = self.draws.below(self.sources.len() as u32);
+        let peer = self.sources[number as usize];
+        (peer, update(&prefix(number), &[], &[]))
     }
-    let number = *announced % prefixes;
-    *announced += 1;
-    let mut attributes = attributes(draws, 2);
-    let unknown = draws.below(256);
-    attributes.push(Attribute::new(0xe0, 241, draws.octets(unknown)));
-    update(&[], &section(&attributes), &prefix(number))
+
+    fn announcement(&mut self) -> (u32, Vec<u8>) {
+        let peer = 1 + self.draws.below(PEERS);
+        let number = self.announced % self.prefixes;
+        self.announced += 1;
+        match self.sources.get_mut(number as usize) {
+            Some(source) => *source = peer,
+            None => self.sources.push(peer),
+        }
+        let mut attributes = attributes(&mut self.draws, 2);
+        let unknown = self.draws.below(256);
+        attributes.push(Attribute::new(0xe0, 241, self.draws.octets(unknown)));
+        (peer, update(&[], &section(&attributes), &prefix(number)))
+    }
+
+    fn next(&mut self) -> (u32, Vec<u8>) {
+        if !self.sources.is_empty() && self.draws.one_in(32) {
+            self.withdrawal()
+        } else {
+            self.announcement()
+        }
+    }
 }
 
 fn log_of(prefixes: u32, octets: usize) -> String {
-    let mut draws = Draws(1);
+    let mut maker = Maker {
+        draws: Draws(1),
+        prefixes,
+        announced: 0,
+        sources: Vec::new(),
+    };
     let mut log = String::with_capacity(octets);
     for peer in 1..=PEERS {
         push_start(&mut log, peer, as_of(peer));
     }
     let mut drains = String::new();
     push_drains(&mut drains, PEERS);
-    let (mut announced, mut turn) = (0, 0);
+    let mut turn = 0;
     loop {
-        let peer = 1 + draws.below(PEERS);
-        let message = next_update(&mut draws, &mut announced, prefixes);
-        // The longest line before the octets is `in 64 `.
+        let (peer, message) = maker.next();
+        // The longest line has `in 64 ` before its octets.
         if log.len() + 7 + 2 * message.len() + 2 * drains.len() > octets {
             log.push_str(&drains);
             return log;
