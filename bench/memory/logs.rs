@@ -1,6 +1,6 @@
 //! Writes the event log of a replay to standard output, the same at each run: `logs short|long SOURCES PREFIXES
-//! SECTIONS`. Each prefix is announced by SOURCES of four peers, 1 or 4, with one of the sections of its peer, which has
-//! a quarter of SECTIONS. bench/replay/speaker.toml is the configuration that fits.
+//! SECTIONS`. Each prefix is announced by SOURCES of four peers, 1 or 4, with one of the sections of its peer, which
+//! has a quarter of SECTIONS. bench/replay/speaker.toml is the configuration that fits.
 //!
 //! A long section has the attributes of a route from a large network, a short one ORIGIN, AS_PATH and NEXT_HOP alone.
 //! An UPDATE has up to 100 prefixes of one section, which lie anywhere in the table; the peers are drained after every
