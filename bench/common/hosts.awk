@@ -1,7 +1,7 @@
 # Makes a table of lines of hosts.rs, each with a number of UPDATEs before it: both times and their ratio, the time on
 # interned beside that on listed, how many times as long it is as with the number before, and the peak memory of both.
 BEGIN {
-    print "| UPDATEs | Host | xbgp | yardstick | Ratio | Beside listed | Beside the number before | Peak memory |"
+    print "| UPDATEs | Host | xbgp | yardstick | Ratio | Beside listed | Time grown | Peak memory |"
     print "|---|---|---|---|---|---|---|---|"
 }
 {
