@@ -7,30 +7,18 @@
 #[allow(dead_code)]
 #[path = "../common/making.rs"]
 mod making;
+#[path = "../common/sessions.rs"]
+mod sessions;
 
-use making::{message, section, spelled, update, write, Attribute, Draws, Prefix};
+use making::{section, spelled, update, write, Attribute, Draws, Prefix};
+use sessions::{address, push_drains, push_octets, push_start};
 use std::env;
-use std::fmt::Write;
 use std::process::ExitCode;
 
 /// The AS of each peer; the last one is the speaker's own.
 const PEERS: [u16; 4] = [65001, 65002, 65003, 65000];
 
 const INTERNAL: u32 = 4;
-
-fn address(peer: u32) -> [u8; 4] {
-    [10, 0, 0, peer as u8]
-}
-
-/// An OPEN of a peer, with hold time 0 and no capability.
-fn open(peer: u32) -> Vec<u8> {
-    let mut body = vec![4];
-    body.extend(PEERS[peer as usize - 1].to_be_bytes());
-    body.extend([0, 0]);
-    body.extend(address(peer));
-    body.push(0);
-    message(1, &body)
-}
 
 /// The value of an AS_PATH: the peer's AS if it is external, then the AS numbers that are drawn.
 fn path(draws: &mut Draws, peer: u32) -> Vec<u8> {
@@ -73,27 +61,17 @@ fn next_update(draws: &mut Draws) -> (u32, Vec<u8>) {
     (peer, update(&[], &section, &prefix))
 }
 
-fn push_octets(log: &mut String, peer: u32, octets: &[u8]) {
-    let _ = write!(log, "in {peer} ");
-    for octet in octets {
-        let _ = write!(log, "{octet:02x}");
-    }
-    log.push('\n');
-}
-
 fn log_of(count: u32) -> String {
     let mut draws = Draws(1);
     let mut log = String::new();
     for peer in 1..=4 {
-        let _ = write!(log, "start {peer}\nup {peer}\n");
-        push_octets(&mut log, peer, &open(peer));
-        push_octets(&mut log, peer, &message(4, &[]));
+        push_start(&mut log, peer, PEERS[peer as usize - 1]);
     }
     for turn in 1..=count {
         let (peer, octets) = next_update(&mut draws);
         push_octets(&mut log, peer, &octets);
         if turn % 100 == 0 || turn == count {
-            log.push_str("drain 1\ndrain 2\ndrain 3\ndrain 4\n");
+            push_drains(&mut log, 4);
         }
     }
     log

@@ -1,5 +1,5 @@
-//! The yardstick of `xbgp replay listed CONFIG - LOG`: the same job in plain Rust, with the same text, for the logs
-//! that logs.rs makes. `yardstick runs CONFIG LOG` counts how often chains of programs run at each point.
+//! The yardstick of `xbgp replay HOST CONFIG - LOG`: the same job in plain Rust, with the same text, for the logs that
+//! logs.rs makes. `yardstick runs CONFIG LOG` counts how often chains of programs run at each point.
 //!
 //! One map has all that is known of a prefix: each peer's route, the best of them, and what each peer is advertised and
 //! was told. So an event of a prefix costs one search of it. A route is kept as its parts, AS numbers in four octets;
@@ -12,7 +12,7 @@
 mod reading;
 
 use reading::{push_decimal, push_hex, Output};
-use std::collections::{BTreeMap, BTreeSet};
+use std::collections::{BTreeMap, BTreeSet, HashMap};
 use std::io;
 use std::process::{exit, ExitCode};
 use std::rc::Rc;
@@ -265,12 +265,20 @@ struct Entry {
     told: Vec<Option<Rc<[u8]>>>,
 }
 
+/// How announcements are packed: SORTED by `listed`, GROUPED by `interned`.
+#[derive(Clone, Copy)]
+enum Packing {
+    Sorted,
+    Grouped,
+}
+
 struct Speaker {
     asn: u32,
     id: u32,
     address: u32,
     hold: u16,
     local_pref: u32,
+    packing: Packing,
     peers: Vec<Peer>,
     table: BTreeMap<Prefix, Entry>,
     runs: Runs,
@@ -496,44 +504,37 @@ impl Speaker {
         Ok(())
     }
 
-    /// The next message for a peer: withdrawals, or the least pending prefix and those after it with its section.
-    fn form(&mut self, peer: usize, wire: &mut Vec<u8>, named: &mut Vec<Prefix>) {
-        wire.clear();
-        named.clear();
-        wire.extend_from_slice(&MARKER);
-        wire.extend_from_slice(&[0, 0, 2, 0, 0]);
-        let pending = &self.peers[peer].pending;
-        for prefix in pending {
-            if self.table[prefix].adv[peer].is_some() {
-                continue;
-            }
-            if !push_nlri(wire, *prefix, 2) {
-                break;
-            }
-            named.push(*prefix);
-        }
-        if !named.is_empty() {
-            let len = (wire.len() - 21) as u16;
-            wire[19..21].copy_from_slice(&len.to_be_bytes());
-            wire.extend_from_slice(&[0, 0]);
-        } else if let Some(section) = pending.first().and_then(|first| self.table[first].adv[peer].as_ref()) {
-            wire.extend_from_slice(&(section.len() as u16).to_be_bytes());
-            wire.extend_from_slice(section);
-            for prefix in pending {
-                if self.table[prefix].adv[peer].as_ref() != Some(section) || !push_nlri(wire, *prefix, 0) {
-                    break;
-                }
-                named.push(*prefix);
+    /// Notes that a peer is told all that waits for it. Returns the prefixes to withdraw, and those to announce with
+    /// their sections, both by rising order.
+    fn take_pending(&mut self, peer: usize) -> (Vec<Prefix>, Vec<(Prefix, Rc<[u8]>)>) {
+        let (mut gone, mut kept) = (Vec::new(), Vec::new());
+        for prefix in std::mem::take(&mut self.peers[peer].pending) {
+            let Some(entry) = self.table.get_mut(&prefix) else { continue };
+            entry.told[peer].clone_from(&entry.adv[peer]);
+            match &entry.adv[peer] {
+                Some(section) => kept.push((prefix, section.clone())),
+                None => gone.push(prefix),
             }
         }
-        let len = wire.len() as u16;
-        wire[16..18].copy_from_slice(&len.to_be_bytes());
-        for prefix in named {
-            self.peers[peer].pending.remove(prefix);
-            if let Some(entry) = self.table.get_mut(prefix) {
-                entry.told[peer] = entry.adv[peer].clone();
-            }
+        (gone, kept)
+    }
+
+    fn drain(&mut self, peer: usize, wire: &mut Vec<u8>, out: &mut Output) -> io::Result<()> {
+        let (gone, kept) = self.take_pending(peer);
+        let mut rest = gone.as_slice();
+        while !rest.is_empty() {
+            rest = write_message(wire, &[], rest);
+            sent(out, peer, wire)?;
         }
+        let runs = match self.packing {
+            Packing::Sorted => runs_of(&kept),
+            Packing::Grouped => groups_of(&kept),
+        };
+        for (section, prefixes) in runs {
+            write_message(wire, section, &prefixes);
+            sent(out, peer, wire)?;
+        }
+        Ok(())
     }
 
     fn print_tables(&self, out: &mut Output) -> io::Result<()> {
@@ -580,16 +581,88 @@ const KEEPALIVE: [u8; 19] = {
     octets
 };
 
-/// Appends a prefix if the message stays within its limit with so many octets after it.
-fn push_nlri(wire: &mut Vec<u8>, prefix: Prefix, after: usize) -> bool {
-    let len = (prefix & 0xff) as u8;
-    let width = usize::from(len.div_ceil(8));
-    if wire.len() + 1 + width + after > MOST_OCTETS {
-        return false;
+/// The octets that a prefix takes in a message.
+fn width(prefix: Prefix) -> usize {
+    1 + ((prefix & 0xff) as usize).div_ceil(8)
+}
+
+/// How many of the prefixes fit into one message with the section.
+fn fitting(section: &[u8], prefixes: impl IntoIterator<Item = Prefix>) -> usize {
+    let mut room = MOST_OCTETS - 23 - section.len();
+    let fits = |prefix: &Prefix| {
+        let left = room.checked_sub(width(*prefix));
+        room = left.unwrap_or(0);
+        left.is_some()
+    };
+    prefixes.into_iter().take_while(fits).count()
+}
+
+/// A section, and the prefixes that one message announces with it.
+type Announced<'a> = (&'a [u8], Vec<Prefix>);
+
+/// The announcements of `listed`: prefixes that follow one another with one section.
+fn runs_of(kept: &[(Prefix, Rc<[u8]>)]) -> Vec<Announced<'_>> {
+    let mut runs = Vec::new();
+    for same in kept.chunk_by(|a, b| a.1 == b.1) {
+        split(&same[0].1, same.iter().map(|(prefix, _)| *prefix).collect(), &mut runs);
     }
-    wire.push(len);
-    wire.extend_from_slice(&((prefix >> 8) as u32).to_be_bytes()[..width]);
-    true
+    runs
+}
+
+/// The announcements of `interned`: all prefixes with one section.
+fn groups_of(kept: &[(Prefix, Rc<[u8]>)]) -> Vec<Announced<'_>> {
+    let mut places = HashMap::new();
+    let mut groups: Vec<Announced<'_>> = Vec::new();
+    for (prefix, section) in kept {
+        let place = *places.entry(section).or_insert(groups.len());
+        if place == groups.len() {
+            groups.push((section, Vec::new()));
+        }
+        groups[place].1.push(*prefix);
+    }
+    let mut messages = Vec::new();
+    for (section, prefixes) in groups {
+        split(section, prefixes, &mut messages);
+    }
+    messages.sort_unstable_by_key(|(_, prefixes)| prefixes[0]);
+    messages
+}
+
+/// Cuts the prefixes of one section into as few messages as they fit into.
+fn split<'a>(section: &'a [u8], mut prefixes: Vec<Prefix>, messages: &mut Vec<Announced<'a>>) {
+    loop {
+        let rest = prefixes.split_off(fitting(section, prefixes.iter().copied()));
+        messages.push((section, prefixes));
+        if rest.is_empty() {
+            return;
+        }
+        prefixes = rest;
+    }
+}
+
+/// Writes an UPDATE that withdraws the prefixes, if the section is empty, or announces them. Returns those that
+/// didn't fit.
+fn write_message<'a>(wire: &mut Vec<u8>, section: &[u8], prefixes: &'a [Prefix]) -> &'a [Prefix] {
+    let (named, rest) = prefixes.split_at(fitting(section, prefixes.iter().copied()));
+    let octets: usize = named.iter().map(|prefix| width(*prefix)).sum();
+    let withdrawn = if section.is_empty() { octets } else { 0 };
+    wire.clear();
+    wire.extend_from_slice(&MARKER);
+    wire.extend_from_slice(&((23 + section.len() + octets) as u16).to_be_bytes());
+    wire.push(2);
+    wire.extend_from_slice(&(withdrawn as u16).to_be_bytes());
+    if !section.is_empty() {
+        wire.extend_from_slice(&(section.len() as u16).to_be_bytes());
+        wire.extend_from_slice(section);
+    }
+    for prefix in named {
+        wire.push(*prefix as u8);
+        wire.extend_from_slice(&((*prefix >> 8) as u32).to_be_bytes()[..width(*prefix) - 1]);
+    }
+    if section.is_empty() {
+        wire.extend_from_slice(&[0, 0]);
+    }
+    rest
 }
 
 fn sent(out: &mut Output, peer: usize, octets: &[u8]) -> io::Result<()> {
@@ -630,7 +703,7 @@ fn peer_of(word: &[u8], peers: usize) -> usize {
     }
 }
 
-fn play_line(speaker: &mut Speaker, line: &[u8], room: &mut Room, out: &mut Output) -> io::Result<()> {
+fn play_line(speaker: &mut Speaker, line: &[u8], wire: &mut Vec<u8>, out: &mut Output) -> io::Result<()> {
     let count = speaker.peers.len();
     if let Some(rest) = line.strip_prefix(b"in ") {
         let Some(space) = rest.iter().position(|octet| *octet == b' ') else { unsupported("a bad line") };
@@ -643,11 +716,7 @@ fn play_line(speaker: &mut Speaker, line: &[u8], room: &mut Room, out: &mut Outp
     }
     if let Some(word) = line.strip_prefix(b"drain ") {
         let peer = peer_of(word, count);
-        while !speaker.peers[peer].pending.is_empty() {
-            speaker.form(peer, &mut room.wire, &mut room.named);
-            sent(out, peer, &room.wire)?;
-        }
-        return Ok(());
+        return speaker.drain(peer, wire, out);
     }
     if let Some(word) = line.strip_prefix(b"start ") {
         speaker.peers[peer_of(word, count)].state = State::Connect;
@@ -664,26 +733,20 @@ fn play_line(speaker: &mut Speaker, line: &[u8], room: &mut Room, out: &mut Outp
     unsupported("a line of another kind")
 }
 
-/// What is used again for each message.
-#[derive(Default)]
-struct Room {
-    wire: Vec<u8>,
-    named: Vec<Prefix>,
-}
-
 fn dotted(text: &str) -> Option<u32> {
     let octets: Option<Vec<u8>> = text.split('.').map(|part| part.parse().ok()).collect();
     Some(u32::from_be_bytes(octets?.try_into().ok()?))
 }
 
 /// The speaker of a configuration in the form of speaker.toml, a key a line.
-fn configured(text: &str) -> Option<Speaker> {
+fn configured(text: &str, packing: Packing) -> Option<Speaker> {
     let mut speaker = Speaker {
         asn: 0,
         id: 0,
         address: 0,
         hold: 90,
         local_pref: 100,
+        packing,
         peers: Vec::new(),
         table: BTreeMap::new(),
         runs: Runs::default(),
@@ -724,28 +787,28 @@ fn configured(text: &str) -> Option<Speaker> {
 }
 
 /// Plays the log, and returns the speaker after it.
-fn play(config: &str, log: &str, out: &mut Output) -> io::Result<Speaker> {
-    let Some(mut speaker) = configured(&std::fs::read_to_string(config)?) else {
+fn play(packing: Packing, config: &str, log: &str, out: &mut Output) -> io::Result<Speaker> {
+    let Some(mut speaker) = configured(&std::fs::read_to_string(config)?, packing) else {
         unsupported("this configuration")
     };
     let log = std::fs::read(log)?;
-    let mut room = Room::default();
+    let mut wire = Vec::new();
     for line in log.split(|octet| *octet == b'\n') {
-        play_line(&mut speaker, line, &mut room, out)?;
+        play_line(&mut speaker, line, &mut wire, out)?;
     }
     Ok(speaker)
 }
 
-fn replay(config: &str, log: &str) -> io::Result<()> {
+fn replay(packing: Packing, config: &str, log: &str) -> io::Result<()> {
     let mut out = Output::new();
-    play(config, log, &mut out)?.print_tables(&mut out)?;
+    play(packing, config, log, &mut out)?.print_tables(&mut out)?;
     out.flush()
 }
 
 /// In place of the tables, how often chains run at receive, inbound, decision, outbound and encode.
 fn count_runs(config: &str, log: &str) -> io::Result<()> {
     let mut out = Output::new();
-    let runs = play(config, log, &mut out)?.runs;
+    let runs = play(Packing::Sorted, config, log, &mut out)?.runs;
     let counts = [runs.receive, runs.inbound, runs.decision, runs.outbound, runs.encode];
     for (i, count) in counts.into_iter().enumerate() {
         if i > 0 {
@@ -761,10 +824,11 @@ fn main() -> ExitCode {
     let words: Vec<String> = std::env::args().skip(1).collect();
     let words: Vec<&str> = words.iter().map(String::as_str).collect();
     let done = match words.as_slice() {
-        ["replay", "listed", config, "-", log] => replay(config, log),
+        ["replay", "listed", config, "-", log] => replay(Packing::Sorted, config, log),
+        ["replay", "interned", config, "-", log] => replay(Packing::Grouped, config, log),
         ["runs", config, log] => count_runs(config, log),
         _ => {
-            eprintln!("usage: yardstick replay listed CONFIG - LOG, or yardstick runs CONFIG LOG");
+            eprintln!("usage: yardstick replay listed|interned CONFIG - LOG, or yardstick runs CONFIG LOG");
             return ExitCode::from(2);
         }
     };

@@ -1,11 +1,11 @@
 //! The yardstick of `xbgp work NUMBER COUNT HOST`: the same events, the same decision and the same packing in plain
-//! Rust, with the same text. There are no sessions and no programs: an UPDATE is read from its octets, decided, exported
-//! to the four peers and packed for them at each drain.
+//! Rust, with the same text. There are no sessions and no programs: an UPDATE is read from its octets, decided,
+//! exported to the four peers and packed for them at each drain.
 //!
 //! All prefixes are 172.16.0.0/24 to 172.31.255.0/24, so tables are arrays that a prefix's two middle octets index.
 //! `yardstick log NUMBER COUNT` writes the same events as a log instead.
 
-use std::collections::BTreeSet;
+use std::collections::{BTreeSet, HashMap};
 use std::io::{self, BufWriter, Write};
 use std::process::ExitCode;
 use std::rc::Rc;
@@ -179,53 +179,80 @@ impl Told {
         self.advertised[prefix] = section;
     }
 
-    /// The prefixes of the next message, and the section with which they are announced, if they are.
-    fn next_prefixes(&self, grouped: bool) -> Option<(Vec<usize>, Option<Rc<[u8]>>)> {
-        let first = *self.pending.first()?;
-        let gone: Vec<usize> = (self.pending.iter().copied())
-            .filter(|prefix| self.advertised[*prefix].is_none())
-            .take((MOST_OCTETS - EMPTY_UPDATE) / PREFIX_OCTETS)
-            .collect();
-        if !gone.is_empty() {
-            return Some((gone, None));
+    /// Notes that all is told that waits. Returns the prefixes to withdraw, and those to announce with their sections,
+    /// both by rising order.
+    fn take_pending(&mut self) -> (Vec<usize>, Vec<(usize, Rc<[u8]>)>) {
+        let (mut gone, mut kept) = (Vec::new(), Vec::new());
+        for prefix in std::mem::take(&mut self.pending) {
+            self.told[prefix].clone_from(&self.advertised[prefix]);
+            match &self.advertised[prefix] {
+                Some(section) => kept.push((prefix, section.clone())),
+                None => gone.push(prefix),
+            }
         }
-        let section = self.advertised[first].clone()?;
+        (gone, kept)
+    }
+
+    fn send(&mut self, section: &[u8], prefixes: &[usize], message: &mut Vec<u8>) {
         let room = (MOST_OCTETS - EMPTY_UPDATE - section.len()) / PREFIX_OCTETS;
-        let is_same = |prefix: &usize| self.advertised[*prefix].as_ref() == Some(&section);
-        let pending = self.pending.iter().copied();
-        let prefixes = if grouped {
-            pending.filter(is_same).take(room).collect()
-        } else {
-            pending.take_while(is_same).take(room).collect()
-        };
-        Some((prefixes, Some(section)))
+        for some in prefixes.chunks(room) {
+            write_message(section, some, message);
+            self.octets += message.len() as u64;
+        }
     }
 
     fn drain(&mut self, grouped: bool, message: &mut Vec<u8>) {
-        while let Some((prefixes, section)) = self.next_prefixes(grouped) {
-            let section: &[u8] = section.as_deref().unwrap_or(&[]);
-            let withdrawn = if section.is_empty() { prefixes.len() * PREFIX_OCTETS } else { 0 };
-            message.clear();
-            message.extend_from_slice(&HEADER);
-            message.extend_from_slice(&(withdrawn as u16).to_be_bytes());
-            if !section.is_empty() {
-                message.extend_from_slice(&(section.len() as u16).to_be_bytes());
-                message.extend_from_slice(section);
-            }
-            for prefix in &prefixes {
-                message.extend_from_slice(&[24, 172, 16 + (prefix >> 8) as u8, *prefix as u8]);
-            }
-            if section.is_empty() {
-                message.extend_from_slice(&[0, 0]);
-            }
-            set_length(message);
-            self.octets += message.len() as u64;
-            for prefix in prefixes {
-                self.told[prefix] = self.advertised[prefix].clone();
-                self.pending.remove(&prefix);
-            }
+        let (gone, kept) = self.take_pending();
+        self.send(&[], &gone, message);
+        let runs = if grouped { groups_of(&kept) } else { runs_of(&kept) };
+        for (section, prefixes) in runs {
+            self.send(section, &prefixes, message);
         }
     }
+}
+
+/// A section and prefixes that are announced with it.
+type Announced<'a> = (&'a [u8], Vec<usize>);
+
+/// Prefixes that follow one another with one section.
+fn runs_of(kept: &[(usize, Rc<[u8]>)]) -> Vec<Announced<'_>> {
+    kept.chunk_by(|a, b| a.1 == b.1)
+        .map(|same| (&*same[0].1, same.iter().map(|(prefix, _)| *prefix).collect()))
+        .collect()
+}
+
+/// All prefixes of a section, the sections by rising order of their first prefixes.
+fn groups_of(kept: &[(usize, Rc<[u8]>)]) -> Vec<Announced<'_>> {
+    let mut places = HashMap::new();
+    let mut groups: Vec<Announced<'_>> = Vec::new();
+    for (prefix, section) in kept {
+        let place = *places.entry(section).or_insert(groups.len());
+        if place == groups.len() {
+            groups.push((section, Vec::new()));
+        }
+        groups[place].1.push(*prefix);
+    }
+    groups
+}
+
+/// Replaces the message by an UPDATE that withdraws the prefixes, if the section is empty, or announces them.
+fn write_message(section: &[u8], prefixes: &[usize], message: &mut Vec<u8>) {
+    let octets = (prefixes.len() * PREFIX_OCTETS) as u16;
+    let withdrawn = if section.is_empty() { octets } else { 0 };
+    message.clear();
+    message.extend_from_slice(&HEADER);
+    message.extend_from_slice(&withdrawn.to_be_bytes());
+    if !section.is_empty() {
+        message.extend_from_slice(&(section.len() as u16).to_be_bytes());
+        message.extend_from_slice(section);
+    }
+    for prefix in prefixes {
+        message.extend_from_slice(&[24, 172, 16 + (prefix >> 8) as u8, *prefix as u8]);
+    }
+    if section.is_empty() {
+        message.extend_from_slice(&[0, 0]);
+    }
+    set_length(message);
 }
 
 struct Speaker {
