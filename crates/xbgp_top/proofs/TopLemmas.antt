@@ -24,7 +24,7 @@ use Rattle.xbgp_top.specs.Inputs.{Gives, Obtains}
 use Rattle.xbgp_top.specs.Outputs.{Writes}
 use Rattle.xbgp_top.specs.Summaries.{work_text}
 use Rattle.xbgp_top.specs.Top.{Explains, IsAnswered}
-use Rattle.xbgp_top.proofs.StopLemmas.{explains_stopped}
+use Rattle.xbgp_top.proofs.StopLemmas.{explains_stopped, front_of_nothing}
 
 -- a status that says what is wrong with an input
 abbrev pub IsOfInput : Status → Type 0
@@ -211,6 +211,31 @@ unfolding answer
 answer-none words files is =
     ap (λ (o : Option Command). elim o as (λ x. Answer) [ None ↦ ended (Err Usage) | Some c ↦ command_answer c files ])
     is
+
+-- a text that was wanted was written, or there was no memory for it
+pub writes_given : {K : Type 0} (took : K → Option (List ℕ)) (faults : K → ℕ) (old new : K) (status : Status)
+    (text : List ℕ) (got : Outcome (List ℕ)) → Gives (Ok text) got → Writes (ended got) took faults old new status
+    → Writes (ended (Ok text)) took faults old new status
+writes_given took faults old new status text (Ok x) given w =
+    subst (λ (o : Outcome (List ℕ)). Writes (ended o) took faults old new status) (sym given) w
+writes_given took faults old new status text (Err why) (inr wrong) w =
+    absurd (let f : ◌≡◌ {A = Outcome (List ℕ)} (Ok text) (Err why) = wrong in cc f)
+writes_given took faults old new status text (Err why) (inl none) w =
+    let v : Writes (ended (Err OutOfMemory)) took faults old new status =
+    subst (λ (s : Status). Writes (ended (Err s)) took faults old new status) none w in
+    let failed : (status ≡ WriteFault) ⊎ (status ≡ OutOfMemory) =
+    elim (v.only) as (λ _. (status ≡ WriteFault) ⊎ (status ≡ OutOfMemory)) [ inl m ↦ inr m | inr other ↦ other ] in
+    record {
+      only = inr failed;
+      whole = λ write memory. absurd (elim failed as (λ _. ⊥) [ inl f ↦ write f | inr m ↦ memory m ]);
+      front = front_of_nothing (took old) (took new) text v.front;
+      fault = λ e. elim (v.fault e) as (λ _. (Done ≡ WriteFault) ⊎ FaultsRose (faults old) (faults new)) [
+        | inl other ↦ absurd (cc other)
+        | inr rose ↦ inr rose
+      ];
+      quiet = v.quiet;
+      later = v.later;
+    }
 
 -- the line of Usage was written
 pub usage_written : {K : Type 0} (took : K → Option (List ℕ)) (faults : K → ℕ) (old new : K) (status : Status)

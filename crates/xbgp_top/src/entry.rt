@@ -4,9 +4,11 @@ ghost use Rattle.xb_io.specs.Causes.{Files, FaultsRose, TookFront};
 ghost use Rattle.xbgp_top.specs.Answers.{answer, command_answer, ended, job_outcome, replay_answer, rule_of};
 ghost use Rattle.xbgp_top.specs.Answers.{setup_input};
 ghost use Rattle.xbgp_top.specs.Commands.{check, command_of, on_file, replay};
+ghost use Rattle.xbgp_top.specs.Inputs.{Gives};
 ghost use Rattle.xbgp_top.specs.Outputs.{Writes};
 ghost use Rattle.xbgp_top.specs.Summaries.{work_text};
 ghost use Rattle.xbgp_top.specs.Top.{Explains, IsAnswered, IsUsage, SaysMissing};
+ghost use Rattle.xbgp_top.specs.Views.{text_view};
 
 use crate::both::replay_both;
 use crate::check::check;
@@ -23,6 +25,7 @@ use host_interned::Interned;
 use host_listed::Listed;
 use std::alloc::Global;
 use xb_io::{Shelf, Sink};
+use xb_values::Buf;
 
 // Writes what is asked about octets that were read.
 fn print_job<K: Sink>(alloc: Global, job: Job, octets: &[u8], sink: &mut K) -> Status
@@ -114,6 +117,16 @@ fn replay_files<S: Shelf, K: Sink>(
     }
 }
 
+// Has a speaker take generated events, and returns the lines that say what came of them.
+fn work_lines(alloc: Global, number: u64, count: u32, host: HostName) -> Result<Buf, Status>
+    ensures { Gives (Ok (work_text (rule_of host) number count)) (text_view result) }
+{
+    match host {
+        HostName::Interned => work_on::<Interned>(alloc, number, count),
+        HostName::Listed => work_on::<Listed>(alloc, number, count),
+    }
+}
+
 // Has a speaker take generated events, and writes what came of them. No file is read.
 fn play_work<K: Sink>(
     alloc: Global,
@@ -125,10 +138,7 @@ fn play_work<K: Sink>(
     ensures { let told = ended (Ok (work_text (rule_of host) number count)) in
         Writes told K.took K.faults sink.old sink.new result }
 {
-    let text = match host {
-        HostName::Interned => work_on::<Interned>(alloc, number, count),
-        HostName::Listed => work_on::<Listed>(alloc, number, count),
-    };
+    let text = work_lines(alloc, number, count, host);
     print_text(alloc, text, sink)
 }
 

@@ -1,9 +1,9 @@
-use Rattle.std.proofs.Common.{rules, map, sym, subst}
+use Rattle.std.proofs.Common.{rules, map, refl, sym, subst}
 use Rattle.std.specs.Prelude.{string_bytes}
 use Rattle.xb_io.specs.Causes.{TookFront}
 use Rattle.xbgp_top.specs.Answers.{Answer}
 use Rattle.xbgp_top.specs.Top.{IsAnswered}
-use Rattle.xbgp_top.proofs.TopLemmas.{answer-none, explains_command, usage_written}
+use Rattle.xbgp_top.proofs.TopLemmas.{answer-none, explains_command, explains_work, usage_written}
 use Rattle.xbgp_top.proofs.entry.run.Goals as goal
 
 pub returns-in-None-clause-exact : goal.returns-in-None-clause-exact
@@ -64,3 +64,31 @@ returns-in-Some-Replay-clause-read_cause g c =
     (explains_command g.S.Shelf.held g.S.Shelf.faults g.K.Sink.took g.K.Sink.faults _ _ _ _
     c.replay_files.result (map string_bytes c.args.words.now) _ c.replay_files.ensures.explains
     (search rules)).read_cause
+
+pub returns-in-Some-Work-clause-exact : goal.returns-in-Some-Work-clause-exact
+returns-in-Some-Work-clause-exact g c =
+    (explains_command g.S.Shelf.held g.S.Shelf.faults g.K.Sink.took g.K.Sink.faults _ _ _ _ c.play_work.result
+    (map string_bytes c.args.words.now) _
+    (explains_work g.S.Shelf.held g.S.Shelf.faults g.K.Sink.took g.K.Sink.faults c.args.shelf.now c.args.shelf.now _ _
+    c.play_work.result c.in-Some-Work.number c.in-Some-Work.count c.in-Some-Work.host refl refl (record {
+      only = c.play_work.ensures.only;
+      whole = c.play_work.ensures.whole;
+      front = c.play_work.ensures.front;
+      fault = c.play_work.ensures.fault;
+      quiet = c.play_work.ensures.quiet;
+      later = c.play_work.ensures.later;
+    })) (search rules)).exact
+
+pub returns-in-Some-Work-clause-front : goal.returns-in-Some-Work-clause-front
+returns-in-Some-Work-clause-front g c =
+    (explains_command g.S.Shelf.held g.S.Shelf.faults g.K.Sink.took g.K.Sink.faults _ _ _ _ c.play_work.result
+    (map string_bytes c.args.words.now) _
+    (explains_work g.S.Shelf.held g.S.Shelf.faults g.K.Sink.took g.K.Sink.faults c.args.shelf.now c.args.shelf.now _ _
+    c.play_work.result c.in-Some-Work.number c.in-Some-Work.count c.in-Some-Work.host refl refl (record {
+      only = c.play_work.ensures.only;
+      whole = c.play_work.ensures.whole;
+      front = c.play_work.ensures.front;
+      fault = c.play_work.ensures.fault;
+      quiet = c.play_work.ensures.quiet;
+      later = c.play_work.ensures.later;
+    })) (search rules)).front
