@@ -1,5 +1,5 @@
 -- How a run ends that writes one answer and then another.
-use Rattle.std.proofs.Common.{◌≡◌, ◌≢◌, ◌⊎◌, ℕ, ◌+◌, ◌<◌, ◌≤◌, List, [], ◌++◌, length, take, Option, Some, None, Bool, true}
+use Rattle.std.proofs.Common.{◌≡◌, ◌≢◌, ◌⊎◌, ℕ, ◌+◌, List, ◌++◌, length, take, Option, Some, None, Bool, true}
 use Rattle.std.proofs.Common.{false, if◌then◌else◌, Err, Ok, refl, sym, ◌∙◌, ap, subst, inl, inr, arith, append_assoc}
 use Rattle.std.proofs.Math.Seq.{take-append-add, take-length}
 use Rattle.std.proofs.lemmas.List.{take-append-le, take_all}
@@ -15,9 +15,9 @@ use Rattle.xb_domain.specs.declared.output.Packing.{Packing}
 use Rattle.xbgp_top.specs.declared.status.Status.{Status}
 use Rattle.xbgp_top.specs.declared.status.Status.TheVariants as status
 use Rattle.xbgp_top.specs.declared.status.Status.TheVariants.{Done, Usage, ReadFault, WriteFault, OutOfMemory}
-use Rattle.xbgp_top.specs.Answers.{Answer, Outcome, answered, both_replays, ended, hosts_answer, is_done, replay_done}
-use Rattle.xbgp_top.specs.Answers.{then_answer, titled_replay}
-use Rattle.xbgp_top.specs.Inputs.{Gives, Obtains}
+use Rattle.xbgp_top.specs.Answers.{Answer, Outcome, answered, is_done, replay_done}
+use Rattle.xbgp_top.specs.Answers.{then_answer}
+use Rattle.xbgp_top.specs.Inputs.{Obtains}
 use Rattle.xbgp_top.specs.Outputs.{Writes}
 use Rattle.xbgp_top.specs.Statuses.{played_status}
 use Rattle.xbgp_top.specs.Top.{Explains, IsAnswered, SaysMissing, WasDone}
@@ -42,18 +42,19 @@ front_then before now later xs ys e front = (
 )
 
 -- a front of a text is one of a longer text
-front_longer : (before now : Option (List ℕ)) (xs ys : List ℕ) → TookFront before now xs → TookFront before now (xs ++ ys)
+front_longer : (before now : Option (List ℕ)) (xs ys : List ℕ) → TookFront before now xs
+    → TookFront before now (xs ++ ys)
 front_longer before now xs ys front = elim (cases_lt front.0 (length xs)) as (λ _. TookFront before now (xs ++ ys)) [
   | inl short ↦ (
-      front.0,
-      front.1 ∙ ap (with_text before) (sym (take-append-le front.0 xs ys (omega (arith, short)))),
-    )
+    front.0,
+    front.1 ∙ ap (with_text before) (sym (take-append-le front.0 xs ys (omega (arith, short)))),
+  )
   | inr long ↦ (
-      length xs,
-      front.1
-          ∙ ap (with_text before) (take_all front.0 xs long
-          ∙ sym (take-append-le (length xs) xs ys (omega arith) ∙ take-length xs)),
-    )
+    length xs,
+    front.1
+        ∙ ap (with_text before) (take_all front.0 xs long
+        ∙ sym (take-append-le (length xs) xs ys (omega arith) ∙ take-length xs)),
+  )
 ]
 
 -- nothing is a front of any text
@@ -154,9 +155,11 @@ module _ {S K : Type 0} (held : S → Option Files) (reads : S → ℕ) (took : 
 
   -- the replay of a log explains how it ended
   pub explains_played : (shelf_old shelf_new : S) (sink_old sink_new : K) (name : List ℕ) (replay : Files → Replayed)
-      (played : Played) (status : Status) → status ≡ played_status played → ((files : Files) → IsMissing (Some files) name → (replay files).played ≡ ends.ReadFault)
+      (played : Played) (status : Status) → status ≡ played_status played
+      → ((files : Files) → IsMissing (Some files) name → (replay files).played ≡ ends.ReadFault)
       → Plays held reads took writes shelf_old shelf_new sink_old sink_new name replay played
-      → Explains held reads took writes shelf_old shelf_new sink_old sink_new (λ files. replay_done (replay files)) status
+      → Explains held reads took writes shelf_old shelf_new sink_old sink_new (λ files. replay_done (replay files))
+      status
   explains_played shelf_old shelf_new sink_old sink_new name replay played status ends_so none p =
       subst (λ (s : Status). Explains held reads took writes shelf_old shelf_new sink_old sink_new
       (λ files. replay_done (replay files)) s) (sym ends_so) (record {
@@ -165,10 +168,11 @@ module _ {S K : Type 0} (held : S → Option Files) (reads : S → ℕ) (took : 
             (ap played_status is.0, λ read. is.1 (λ m. read (ap played_status m)));
         front = λ files e. p.front files e;
         read_cause = λ e. elim (p.read_cause (read_played played e))
-            as (λ _. FaultsRose (reads shelf_old) (reads shelf_new) ⊎ SaysMissing (held shelf_old) (λ files. replay_done (replay files))) [
-          | inl rose ↦ inl rose
-          | inr missing ↦ inr (by (held shelf_old) missing)
-        ];
+            as (λ _. FaultsRose (reads shelf_old) (reads shelf_new)
+            ⊎ SaysMissing (held shelf_old) (λ files. replay_done (replay files))) [
+              | inl rose ↦ inl rose
+              | inr missing ↦ inr (by (held shelf_old) missing)
+            ];
         write_cause = λ e. p.write_cause (write_played played e);
         quiet_shelf = λ read memory. p.quiet_shelf (λ m. read (ap played_status m));
         quiet_sink = λ write memory. p.quiet_sink (λ m. write (ap played_status m)) (λ m. memory (ap played_status m));
@@ -197,7 +201,8 @@ module _ {S K : Type 0} (held : S → Option Files) (reads : S → ℕ) (took : 
       write_played ends.OutOfMemory e = absurd (cc e)
 
   -- a step over the shelf gave a value, and what follows needs no other
-  pub explains_after : {A : Type 0} (shelf_old shelf_mid shelf_new : S) (sink_old sink_new : K) (want : Files → Outcome A)
+  pub explains_after : {A : Type 0} (shelf_old shelf_mid shelf_new : S) (sink_old sink_new : K)
+      (want : Files → Outcome A)
       (x : A) (next told : Files → Answer) (status : Status)
       → ((files : Files) → want files ≡ Ok x → told files ≡ next files)
       → Obtains held reads shelf_old shelf_mid want (Ok x)
@@ -214,11 +219,11 @@ module _ {S K : Type 0} (held : S → Option Files) (reads : S → ℕ) (took : 
             (e.front files (o.same ∙ has));
         read_cause = λ fault. elim (e.read_cause fault)
             as (λ _. FaultsRose (reads shelf_old) (reads shelf_new) ⊎ SaysMissing (held shelf_old) told) [
-          | inl rose ↦ inl (subst (λ n. FaultsRose n (reads shelf_new)) quiet rose)
-          | inr says ↦ inr (missing_by (held shelf_old) next told
-              (λ files has. ap (λ (a : Answer). a.status) (sym (is files has)))
-              (subst (λ h. SaysMissing h next) o.same says))
-        ];
+              | inl rose ↦ inl (subst (λ n. FaultsRose n (reads shelf_new)) quiet rose)
+              | inr says ↦ inr (missing_by (held shelf_old) next told
+                  (λ files has. ap (λ (a : Answer). a.status) (sym (is files has)))
+                  (subst (λ h. SaysMissing h next) o.same says))
+            ];
         write_cause = e.write_cause;
         quiet_shelf = λ read memory. e.quiet_shelf read memory ∙ quiet;
         quiet_sink = e.quiet_sink;
@@ -250,9 +255,9 @@ module _ {S K : Type 0} (held : S → Option Files) (reads : S → ℕ) (took : 
         read_cause = λ fault. elim (e.read_cause fault)
             as (λ _. FaultsRose (reads shelf_old) (reads shelf_new)
             ⊎ SaysMissing (held shelf_old) (λ files. then_answer (first files) (next files))) [
-          | inl rose ↦ inl rose
-          | inr says ↦ inr (by (held shelf_old) says)
-        ];
+              | inl rose ↦ inl rose
+              | inr says ↦ inr (by (held shelf_old) says)
+            ];
         write_cause = e.write_cause;
         quiet_shelf = e.quiet_shelf;
         quiet_sink = e.quiet_sink;
@@ -273,7 +278,8 @@ module _ {S K : Type 0} (held : S → Option Files) (reads : S → ℕ) (took : 
       → Explains held reads took writes shelf_mid shelf_new sink_mid sink_new next status
       → Explains held reads took writes shelf_old shelf_new sink_old sink_new
       (λ files. then_answer (first files) (next files)) status
-  explains_then shelf_old shelf_mid shelf_new sink_old sink_mid sink_new first next status done same calm_reads calm_writes e =
+  explains_then shelf_old shelf_mid shelf_new sink_old sink_mid sink_new first next status done same calm_reads
+      calm_writes e =
       record {
         exact = λ files has no_read no_write memory.
             let is = e.exact files (same ∙ has)
@@ -281,9 +287,11 @@ module _ {S K : Type 0} (held : S → Option Files) (reads : S → ℕ) (took : 
             (λ rose. no_write (subst (λ n. FaultsRose n (writes sink_new)) calm_writes rose)) memory in
             let first_done = done files has in
             subst (λ (a : Answer). IsAnswered a (took sink_old) (took sink_new) status)
-            (sym (then-done (first files) (next files) first_done.0))
-            (is.0, λ read. text_then (took sink_old) (took sink_mid) (took sink_new) (first files).text
-            (next files).text first_done.1 (is.1 read));
+            (sym (then-done (first files) (next files) first_done.0)) (
+              is.0,
+              λ read. text_then (took sink_old) (took sink_mid) (took sink_new) (first files).text
+                  (next files).text first_done.1 (is.1 read),
+            );
         front = λ files has.
             let first_done = done files has in
             subst (λ (a : Answer). TookFront (took sink_old) (took sink_new) a.text)
@@ -293,12 +301,12 @@ module _ {S K : Type 0} (held : S → Option Files) (reads : S → ℕ) (took : 
         read_cause = λ fault. elim (e.read_cause fault)
             as (λ _. FaultsRose (reads shelf_old) (reads shelf_new)
             ⊎ SaysMissing (held shelf_old) (λ files. then_answer (first files) (next files))) [
-          | inl rose ↦ inl (subst (λ n. FaultsRose n (reads shelf_new)) calm_reads rose)
-          | inr says ↦ inr (missing_by (held shelf_old) next (λ files. then_answer (first files) (next files))
-              (λ files has. ap (λ (a : Answer). a.status)
-              (sym (then-done (first files) (next files) (done files has).0)))
-              (subst (λ h. SaysMissing h next) same says))
-        ];
+              | inl rose ↦ inl (subst (λ n. FaultsRose n (reads shelf_new)) calm_reads rose)
+              | inr says ↦ inr (missing_by (held shelf_old) next (λ files. then_answer (first files) (next files))
+                  (λ files has. ap (λ (a : Answer). a.status)
+                  (sym (then-done (first files) (next files) (done files has).0)))
+                  (subst (λ h. SaysMissing h next) same says))
+            ];
         write_cause = λ fault. subst (λ n. FaultsRose n (writes sink_new)) calm_writes (e.write_cause fault);
         quiet_shelf = λ read memory. e.quiet_shelf read memory ∙ calm_reads;
         quiet_sink = λ write memory. e.quiet_sink write memory ∙ calm_writes;
@@ -307,7 +315,8 @@ module _ {S K : Type 0} (held : S → Option Files) (reads : S → ℕ) (took : 
       }
 
   -- a title was written, and then a replay that ended Done
-  pub titled_done : (held_now : Option Files) (sink_old sink_mid sink_new : K) (title : List ℕ) (replay : Files → Replayed)
+  pub titled_done : (held_now : Option Files) (sink_old sink_mid sink_new : K) (title : List ℕ)
+      (replay : Files → Replayed)
       → took sink_mid ≡ with_text (took sink_old) title
       → ((files : Files) → held_now ≡ Some files
       → IsReplayed (replay files) (took sink_mid) (took sink_new) ends.Done)

@@ -1,6 +1,5 @@
 -- Texts that are kept, to make of them again what a speaker is made of (for the functions of both.rt).
 use Rattle.std.specs.Prelude.{ℕ, List, Option, Some, None, Result, Ok, Err, Vec}
-use Rattle.std.specs.Option.{option_map}
 use Rattle.std.specs.Result.{result_map_both}
 use Rattle.std.specs.declared.alloc.Global.{Global}
 use Rattle.xbgp_config.specs.Configs.{Config}

@@ -24,6 +24,7 @@ use xbgp_config::read_config;
 use xbgp_manifest::{Manifest, read_manifest};
 
 const INTERNED_LINE: &[u8] = b"host interned\n";
+
 const LISTED_LINE: &[u8] = b"host listed\n";
 
 /// What a speaker is made of, with the texts that say so.
@@ -83,11 +84,7 @@ fn manifest_in(alloc: Global, text: &Option<Vec<u8>>) -> Result<Manifest, Status
 }
 
 // Judges texts, and makes of them what a speaker is made of.
-fn setup_in(
-    alloc: Global,
-    config: &[u8],
-    manifest: &Option<Vec<u8>>,
-) -> Result<Setup, Status>
+fn setup_in(alloc: Global, config: &[u8], manifest: &Option<Vec<u8>>) -> Result<Setup, Status>
     ensures { Gives (setup_of config.now (option_octets manifest.now)) result }
 {
     let config = read_config(alloc, config)?;

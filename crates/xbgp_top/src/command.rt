@@ -148,11 +148,14 @@ pub(crate) fn command_in(words: &[String]) -> Option<Command<'_>>
             Some(job) => Some(Command::File(job, name.as_str())),
             None => None,
         },
-        [word, config, manifest] => {
-            check_in(word.as_str(), config.as_str(), manifest.as_str())
-        }
+        [word, config, manifest] => { check_in(word.as_str(), config.as_str(), manifest.as_str()) }
         [word, number, count, host] => {
-            work_in(word.as_str(), number.as_str(), count.as_str(), host.as_str())
+            work_in(
+                word.as_str(),
+                number.as_str(),
+                count.as_str(),
+                host.as_str(),
+            )
         }
         [word, hosts, config, manifest, log] => replay_in(
             word.as_str(),

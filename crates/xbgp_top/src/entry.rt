@@ -91,9 +91,7 @@ fn replay_one<S: Shelf, K: Sink>(
         HostName::Interned => {
             replay_on::<Interned, S, K>(alloc, config, manifest, log, shelf, sink)
         }
-        HostName::Listed => {
-            replay_on::<Listed, S, K>(alloc, config, manifest, log, shelf, sink)
-        }
+        HostName::Listed => { replay_on::<Listed, S, K>(alloc, config, manifest, log, shelf, sink) }
     }
 }
 

@@ -2,10 +2,10 @@
 //!
 //! Words and files come in by a list of words and a shelf; text goes out to a sink, and the status is returned. `run`
 //! finds the command, and each command has a module: `check`, `exec` and `work` make their whole text and leave it to
-//! be written once, `hear`, `judge`, `replay` and `both` write theirs by pages. An input is read whole before it is judged, and
-//! what may be refused is refused before any text is written; only a log is read line by line, as it is replayed. So a
-//! step over the shelf gives a value or the status that ends the command, and a step over the sink writes a text or the
-//! line of that status; [`spk_model::replay`] is both.
+//! be written once, `hear`, `judge`, `replay` and `both` write theirs by pages. An input is read whole before it is
+//! judged, and what may be refused is refused before any text is written; only a log is read line by line, as it is
+//! replayed. So a step over the shelf gives a value or the status that ends the command, and a step over the sink writes
+//! a text or the line of that status; [`spk_model::replay`] is both.
 //!
 //! `specs/Answers` says what the program answers to its words, from the files that are held: a status and a text. `run`
 //! gives that answer over any shelf and any sink, and each other answer only with its cause. What the files hold is

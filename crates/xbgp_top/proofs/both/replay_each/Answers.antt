@@ -1,10 +1,10 @@
-use Rattle.std.proofs.Common.{◌≡◌, ◌≢◌, ◌⊎◌, ◌∙◌, ℕ, List, Ok, Err, inl, inr, refl, sym, ap, subst}
+use Rattle.std.proofs.Common.{◌≡◌, ◌∙◌, ℕ, List, Ok, Err, inl, inr, sym, subst}
 use Rattle.xb_io.specs.Causes.{Files}
 use Rattle.xb_domain.specs.declared.output.Packing.TheVariants.{Sorted, Grouped}
 use Rattle.spk_model.specs.declared.host.Setup.{Setup}
 use Rattle.xbgp_top.specs.declared.command.HostName.TheVariants.{Interned, Listed}
 use Rattle.xbgp_top.specs.declared.status.Status.{Status}
-use Rattle.xbgp_top.specs.declared.status.Status.TheVariants.{Done, OutOfMemory}
+use Rattle.xbgp_top.specs.declared.status.Status.TheVariants.{OutOfMemory}
 use Rattle.xbgp_top.specs.Answers.{Answer, Outcome, host_line, titled_replay}
 use Rattle.xbgp_top.specs.Kept.{option_octets, setup_of}
 use Rattle.xbgp_top.specs.Top.{Explains}
@@ -18,7 +18,8 @@ returns-in-Ok-clause-explains g c =
     let again : setup_of ((c.args.kept).config).items (option_octets (c.args.kept).manifest) ≡ Ok c.in-Ok.setup =
     subst (λ (l : List ℕ). setup_of l (option_octets (c.args.kept).manifest) ≡ Ok c.in-Ok.setup) c.deref.ensures.value
     c.in-Ok.ensures in
-    let same : c.in-Ok.setup ≡ setup = let e : ◌≡◌ {A = Outcome Setup} (Ok c.in-Ok.setup) (Ok setup) = sym again ∙ c.requires.kept in cc e in
+    let same : c.in-Ok.setup ≡ setup =
+    let e : ◌≡◌ {A = Outcome Setup} (Ok c.in-Ok.setup) (Ok setup) = sym again ∙ c.requires.kept in cc e in
     let first : Files → Answer = titled_replay (host_line Interned) Grouped setup log in
     let second : Setup → Files → Answer = λ x. titled_replay (host_line Listed) Sorted x log in
     explains_then g.S.Shelf.held g.S.Shelf.faults g.K.Sink.took g.K.Sink.faults _ _ _ _ _ _ first (second setup)

@@ -1,12 +1,10 @@
-use Rattle.std.proofs.Common.{◌≡◌, ◌≢◌, ◌∙◌, inl, inr, refl, sym, ap, subst}
+use Rattle.std.proofs.Common.{◌≡◌, ◌∙◌, inl, inr, refl, sym, subst}
 use Rattle.xb_io.specs.Causes.{Files}
 use Rattle.spk_model.specs.Playing.{Plays, Replayed, IsReplayed, replayed}
 use Rattle.spk_model.specs.declared.play.Played.{Played}
 use Rattle.spk_model.specs.declared.play.Played.TheVariants as ends
-use Rattle.xbgp_top.specs.Answers.{Answer, answered, replay_done}
-use Rattle.xbgp_top.specs.Top.{Explains}
-use Rattle.xbgp_top.specs.declared.status.Status.{Status}
-use Rattle.xbgp_top.specs.declared.status.Status.TheVariants.{Done, Usage}
+use Rattle.xbgp_top.specs.Answers.{answered, replay_done}
+use Rattle.xbgp_top.specs.declared.status.Status.TheVariants.{Done}
 use Rattle.xbgp_top.proofs.ThenLemmas.{done_played, explains_last, explains_line, explains_played, explains_then}
 use Rattle.xbgp_top.proofs.ThenLemmas.{missing_played, titled_done}
 use Rattle.xbgp_top.proofs.both.replay_titled.Goals as goal
