@@ -193,6 +193,13 @@ write_stop stops.WriteFault e = refl
 write_stop stops.ReadFault e = absurd (cc e)
 write_stop stops.OutOfMemory e = absurd (cc e)
 
+-- a replay that was stopped failed
+stopped_failed : (stop : Stop) → played_by_stop stop ≢ ReadFault → played_by_stop stop ≢ WriteFault
+    → played_by_stop stop ≢ OutOfMemory → ⊥
+stopped_failed stops.ReadFault read write memory = read refl
+stopped_failed stops.WriteFault read write memory = write refl
+stopped_failed stops.OutOfMemory read write memory = memory refl
+
 no_read_fault : (halt : Halt) → stop_of halt ≡ stops.ReadFault → ⊥
 no_read_fault halts.WriteFault e = cc e
 no_read_fault halts.OutOfMemory e = cc e
@@ -325,6 +332,7 @@ module _ {S K : Type 0} (held : S → Option Files) (reads : S → ℕ) (took : 
     stopped_plays stop s =
         record {
           exact = stopped_exact stop s;
+          whole = λ files is read write memory. absurd (stopped_failed stop read write memory);
           front = λ files is. front_of files is s.front s.missing;
           read_cause = λ e. s.read_cause (read_stop stop e);
           write_cause = λ e. s.write_cause (write_stop stop e);
@@ -358,6 +366,7 @@ module _ {S K : Type 0} (held : S → Option Files) (reads : S → ℕ) (took : 
     plays_ended ending played is is_held written quiet calm same =
         record {
           exact = λ files has a b memory. exact files has (file_named files name) refl;
+          whole = λ files has read write memory. exact files has (file_named files name) refl;
           front = λ files has. front_of files has
               (λ text e. (
                 length (report rule setup text),

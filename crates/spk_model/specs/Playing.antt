@@ -43,6 +43,9 @@ pub record Plays {S K : Type 0} (held : S → Option Files) (reads : S → ℕ)
   pub exact : (files : Files) → held shelf_old ≡ Some files
       → ¬ FaultsRose (reads shelf_old) (reads shelf_new) → ¬ FaultsRose (writes sink_old) (writes sink_new)
       → played ≢ OutOfMemory → IsReplayed (replay files) (took sink_old) (took sink_new) played
+  pub whole : (files : Files) → held shelf_old ≡ Some files
+      → played ≢ ReadFault → played ≢ WriteFault → played ≢ OutOfMemory
+      → IsReplayed (replay files) (took sink_old) (took sink_new) played
   pub front : (files : Files) → held shelf_old ≡ Some files
       → TookFront (took sink_old) (took sink_new) (replay files).text
   pub read_cause : played ≡ ReadFault
