@@ -1,4 +1,4 @@
-ghost use Rattle.std.specs.Prelude.{◌≡◌, IfOk};
+ghost use Rattle.std.specs.Prelude.{◌≡◌, length, IfOk, IfSome};
 ghost use Rattle.spk_model.specs.Readers.{IsPeer};
 
 use host_interned::{Chosen, Interned};
@@ -71,38 +71,92 @@ fn bring_up(
     host.step(alloc, Event::Octets(peer, &KEEPALIVE), out)
 }
 
+// A host with two peers, if the configuration has so many.
+fn make_host(alloc: Global) -> Result<Option<Interned>, Fail>
+    ensures { IfOk result (λ o. IfSome o (λ h. length ((⟦<Interned as Host>⟧.built_from h).config).peers ≡ 2)) }
+{
+    let config = read_config(alloc, CONFIG.as_bytes())?;
+    let manifest = Manifest::none(alloc)?;
+    if config.peers.len() != 2 {
+        return Ok(None);
+    }
+    Ok(Some(Interned::make(alloc, Setup { config, manifest })?))
+}
+
+// Octets come from the first peer.
+fn hear(
+    alloc: Global,
+    host: Interned,
+    octets: &[u8],
+    out: &mut Outputs,
+) -> Result<Interned, AllocError>
+    requires { IsPeer (⟦<Interned as Host>⟧.built_from host) 1 }
+    ensures { IfOk result (λ h. ⟦<Interned as Host>⟧.built_from h ≡ ⟦<Interned as Host>⟧.built_from host.entry) }
+{
+    host.step(alloc, Event::Octets(1, octets), out)
+}
+
 // The best route of a prefix of length 8: its source and its record.
 fn best(host: &Interned, address: u32) -> Option<Chosen> {
     let prefix = Prefix::new(address, 8)?;
     host.routes().get(prefix, &mut Steps::start()).copied()
 }
 
+// How many records live, and whether 10.0.0.0/8 and 12.0.0.0/8 have routes, and these one record.
+#[derive(Clone, Copy, Debug, PartialEq, Eq)]
+struct Kept {
+    live: usize,
+    ten: bool,
+    twelve: bool,
+    shared: bool,
+}
+
+fn kept(host: &Interned) -> Kept {
+    let ten = best(host, 0x0a00_0000);
+    let twelve = best(host, 0x0c00_0000);
+    Kept {
+        live: host.records().live(),
+        ten: ten.is_some(),
+        twelve: twelve.is_some(),
+        shared: ten.is_some() && ten == twelve,
+    }
+}
+
+// The record of the speaker's own routes is always there.
+const NONE: Kept = Kept {
+    live: 1,
+    ten: false,
+    twelve: false,
+    shared: false,
+};
+
+const BOTH: Kept = Kept {
+    live: 2,
+    ten: true,
+    twelve: true,
+    shared: true,
+};
+
+const TWELVE: Kept = Kept {
+    live: 2,
+    ten: false,
+    twelve: true,
+    shared: false,
+};
+
 #[test]
 fn prefixes_of_one_update_share_a_record(rt: HostRuntime) -> Result<(), Fail> {
     let alloc = rt.alloc();
-    let config = read_config(alloc, CONFIG.as_bytes())?;
-    assert_eq!(rt; config.peers.len(), 2);
-    let manifest = Manifest::none(alloc)?;
     let mut out = Outputs::make(alloc)?;
-    let host = Interned::make(alloc, Setup { config, manifest })?;
+    let host = make_host(alloc)?.ok_or("other peers")?;
     let host = bring_up(alloc, host, 1, &OPEN_1, &mut out)?;
     let host = bring_up(alloc, host, 2, &OPEN_2, &mut out)?;
-    // The record of the speaker's own routes is always there.
-    assert_eq!(rt; host.records().live(), 1);
-
-    let host = host.step(alloc, Event::Octets(1, &ANNOUNCED), &mut out)?;
-    assert_eq!(rt; host.records().live(), 2);
-    let ten = best(&host, 0x0a00_0000).ok_or("10.0.0.0/8 has no route")?;
-    assert_eq!(rt; ten.source, 1);
-    assert_eq!(rt; best(&host, 0x0c00_0000), Some(ten));
-
-    let host = host.step(alloc, Event::Octets(1, &TEN_WITHDRAWN), &mut out)?;
-    assert_eq!(rt; best(&host, 0x0a00_0000), None);
-    assert_eq!(rt; best(&host, 0x0c00_0000), Some(ten));
-    assert_eq!(rt; host.records().live(), 2);
-
-    let host = host.step(alloc, Event::Octets(1, &TWELVE_WITHDRAWN), &mut out)?;
-    assert_eq!(rt; best(&host, 0x0c00_0000), None);
-    assert_eq!(rt; host.records().live(), 1);
+    assert_eq!(rt; kept(&host), NONE);
+    let host = hear(alloc, host, &ANNOUNCED, &mut out)?;
+    assert_eq!(rt; kept(&host), BOTH);
+    let host = hear(alloc, host, &TEN_WITHDRAWN, &mut out)?;
+    assert_eq!(rt; kept(&host), TWELVE);
+    let host = hear(alloc, host, &TWELVE_WITHDRAWN, &mut out)?;
+    assert_eq!(rt; kept(&host), NONE);
     Ok(())
 }
