@@ -105,7 +105,7 @@ fn rows_give_their_reports(rt: HostRuntime) -> Result<(), Fail> {
 fn each_host_packs_by_its_rule(rt: HostRuntime) -> Result<(), Fail> {
     let alloc = rt.alloc();
     let log = log_of(alloc, &SECTIONS)?;
-    for (host, sent) in &PACKED {
+    for (host, sent) in PACKED {
         let mut report = joined(alloc, &REPORTED_UP, SECTIONS.up, sent, SECTIONS.report)?;
         report.push_str(END)?;
         let (status, written) = replay(alloc, host, C, "", &log)?;

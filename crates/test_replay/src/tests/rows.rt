@@ -385,7 +385,7 @@ drained 2
 };
 
 /// What each host sends then.
-pub(crate) static PACKED: [(&str, &str); 2] = [
+pub(crate) const PACKED: [(&str, &str); 2] = [
     (
         "interned",
         "sent 2 ffffffffffffffffffffffffffffffff002f0200000014400101004002060202fde8fde9400304c00002fe080a080c
