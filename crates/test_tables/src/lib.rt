@@ -1,5 +1,6 @@
-//! Tests of what the speaker is to be made of: the table of a peer gives back the route that was put, what a peer is
-//! told has the worked messages, and the lines of a report have their worked texts.
+//! Tests of what the speaker is to be made of: the table of a peer gives back the route that was put, routes of equal
+//! meaning share a record, what a peer is told has the worked messages, and the lines of a report have their worked
+//! texts.
 #![tactic(auto)]
 
 ghost use Rattle.std.specs.Prelude.{◌≡◌, ◌≤◌, true, false, MatchOption};
@@ -27,5 +28,9 @@ pub fn section_at(table: &PeerTable, prefix: Prefix, out: &mut Buf) -> bool
     true
 }
 
+#[cfg(test)]
+mod grouped;
+#[cfg(test)]
+mod shared;
 #[cfg(test)]
 mod tests;

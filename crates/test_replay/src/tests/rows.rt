@@ -145,7 +145,7 @@ pub(crate) const TOLD: Row = Row {
     report: REPORT,
 };
 
-pub(crate) static ROWS: [Row; 14] = [
+pub(crate) static ROWS: [Row; 13] = [
     Row {
         what: "a length of 4,097 octets",
         config: C,
@@ -243,28 +243,6 @@ in 3 ffffffffffffffffffffffffffffffff002b0200000012400101004002040201fdeb400304c
 adv 1 10.0.0.0/8 400101004002060202fde8fdeb400304c00002fe
 adv 2 10.0.0.0/8 400101004002060202fde8fdeb400304c00002fe
 drained 3
-",
-    },
-    Row {
-        what: "runs of equal sections",
-        config: C,
-        manifest: "",
-        up: 2,
-        log: "in 1 ffffffffffffffffffffffffffffffff002d0200000012400101004002040201fde9400304c0000201080a080c
-in 1 ffffffffffffffffffffffffffffffff002b0200000012400101014002040201fde9400304c0000201080b
-drain 2
-",
-        report: "sent 2 ffffffffffffffffffffffffffffffff002d0200000014400101004002060202fde8fde9400304c00002fe080a
-sent 2 ffffffffffffffffffffffffffffffff002d0200000014400101014002060202fde8fde9400304c00002fe080b
-sent 2 ffffffffffffffffffffffffffffffff002d0200000014400101004002060202fde8fde9400304c00002fe080c
-route 10.0.0.0/8 1 4001010040020602010000fde9400304c0000201
-route 11.0.0.0/8 1 4001010140020602010000fde9400304c0000201
-route 12.0.0.0/8 1 4001010040020602010000fde9400304c0000201
-adv 2 10.0.0.0/8 400101004002060202fde8fde9400304c00002fe
-adv 2 11.0.0.0/8 400101014002060202fde8fde9400304c00002fe
-adv 2 12.0.0.0/8 400101004002060202fde8fde9400304c00002fe
-drained 1
-drained 2
 ",
     },
     Row {
@@ -383,4 +361,42 @@ drain 2
 ",
         report: APPENDED,
     },
+];
+
+/// Prefixes of two sections, of which peer 2 is told. What is sent to it comes first in the report.
+pub(crate) const SECTIONS: Row = Row {
+    what: "prefixes of two sections",
+    config: C,
+    manifest: "",
+    up: 2,
+    log: "in 1 ffffffffffffffffffffffffffffffff002d0200000012400101004002040201fde9400304c0000201080a080c
+in 1 ffffffffffffffffffffffffffffffff002b0200000012400101014002040201fde9400304c0000201080b
+drain 2
+",
+    report: "route 10.0.0.0/8 1 4001010040020602010000fde9400304c0000201
+route 11.0.0.0/8 1 4001010140020602010000fde9400304c0000201
+route 12.0.0.0/8 1 4001010040020602010000fde9400304c0000201
+adv 2 10.0.0.0/8 400101004002060202fde8fde9400304c00002fe
+adv 2 11.0.0.0/8 400101014002060202fde8fde9400304c00002fe
+adv 2 12.0.0.0/8 400101004002060202fde8fde9400304c00002fe
+drained 1
+drained 2
+",
+};
+
+/// What each host sends then.
+pub(crate) const PACKED: [(&str, &str); 2] = [
+    (
+        "interned",
+        "sent 2 ffffffffffffffffffffffffffffffff002f0200000014400101004002060202fde8fde9400304c00002fe080a080c
+sent 2 ffffffffffffffffffffffffffffffff002d0200000014400101014002060202fde8fde9400304c00002fe080b
+",
+    ),
+    (
+        "listed",
+        "sent 2 ffffffffffffffffffffffffffffffff002d0200000014400101004002060202fde8fde9400304c00002fe080a
+sent 2 ffffffffffffffffffffffffffffffff002d0200000014400101014002060202fde8fde9400304c00002fe080b
+sent 2 ffffffffffffffffffffffffffffffff002d0200000014400101004002060202fde8fde9400304c00002fe080c
+",
+    ),
 ];

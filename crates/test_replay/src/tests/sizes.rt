@@ -1,6 +1,6 @@
 //! Routes at the limit of what is advertised: 4,068 octets of attributes.
 use super::rows::{C, REPORTED_UP, UP};
-use super::{END, joined, repeated, replay};
+use super::{END, joined, on_both, repeated, replay};
 use std::alloc::{AllocError, Global};
 use std::test::Fail;
 use xbgp_top::Status;
@@ -71,10 +71,11 @@ fn a_section_over_its_limit_is_not_advertised(rt: HostRuntime) -> Result<(), Fai
         let zeros = repeated(rt.alloc(), "00", long.zeros)?;
         let log = log_of(rt.alloc(), long, &zeros)?;
         let report = report_of(rt.alloc(), long, &zeros)?;
-        let (status, written) = replay(rt.alloc(), C, "", &log)?;
+        let wanted = on_both(rt.alloc(), &report)?;
+        let (status, written) = replay(rt.alloc(), "both", C, "", &log)?;
         assert_eq!(rt; status, Status::Done);
         assert!(rt;
-            written.as_slice() == report.as_bytes(),
+            written.as_slice() == wanted.as_bytes(),
             "with {} zeros",
             long.zeros
         );
