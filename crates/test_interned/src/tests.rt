@@ -111,7 +111,7 @@ struct Kept {
     shared: bool,
 }
 
-fn kept(host: &Interned) -> Kept {
+fn look_at(host: &Interned) -> Kept {
     let ten = best(host, 0x0a00_0000);
     let twelve = best(host, 0x0c00_0000);
     Kept {
@@ -151,12 +151,12 @@ fn prefixes_of_one_update_share_a_record(rt: HostRuntime) -> Result<(), Fail> {
     let host = make_host(alloc)?.ok_or("other peers")?;
     let host = bring_up(alloc, host, 1, &OPEN_1, &mut out)?;
     let host = bring_up(alloc, host, 2, &OPEN_2, &mut out)?;
-    assert_eq!(rt; kept(&host), NONE);
+    assert_eq!(rt; look_at(&host), NONE);
     let host = hear(alloc, host, &ANNOUNCED, &mut out)?;
-    assert_eq!(rt; kept(&host), BOTH);
+    assert_eq!(rt; look_at(&host), BOTH);
     let host = hear(alloc, host, &TEN_WITHDRAWN, &mut out)?;
-    assert_eq!(rt; kept(&host), TWELVE);
+    assert_eq!(rt; look_at(&host), TWELVE);
     let host = hear(alloc, host, &TWELVE_WITHDRAWN, &mut out)?;
-    assert_eq!(rt; kept(&host), NONE);
+    assert_eq!(rt; look_at(&host), NONE);
     Ok(())
 }
