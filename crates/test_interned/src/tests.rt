@@ -4,6 +4,7 @@ ghost use Rattle.spk_model.specs.Readers.{IsPeer};
 use host_interned::{Chosen, Interned};
 use spk_model::{Host, Setup};
 use std::alloc::{AllocError, Global};
+use std::process::Abort;
 use std::test::Fail;
 use xb_domain::{Event, Outputs};
 use xb_values::{Prefix, Steps};
@@ -63,7 +64,7 @@ fn bring_up(
     out: &mut Outputs,
 ) -> Result<Interned, AllocError>
     requires { IsPeer (⟦<Interned as Host>⟧.built_from host) peer }
-    ensures { IfOk result (λ h. ⟦<Interned as Host>⟧.built_from h ≡ ⟦<Interned as Host>⟧.built_from host.entry) }
+    ensures { IfOk result (λ h. ⟦<Interned as Host>⟧.built_from h ≡ ⟦<Interned as Host>⟧.built_from host) }
 {
     let host = host.step(alloc, Event::Start(peer), out)?;
     let host = host.step(alloc, Event::Up(peer), out)?;
@@ -81,19 +82,6 @@ fn make_host(alloc: Global) -> Result<Option<Interned>, Fail>
         return Ok(None);
     }
     Ok(Some(Interned::make(alloc, Setup { config, manifest })?))
-}
-
-// Octets come from the first peer.
-fn hear(
-    alloc: Global,
-    host: Interned,
-    octets: &[u8],
-    out: &mut Outputs,
-) -> Result<Interned, AllocError>
-    requires { IsPeer (⟦<Interned as Host>⟧.built_from host) 1 }
-    ensures { IfOk result (λ h. ⟦<Interned as Host>⟧.built_from h ≡ ⟦<Interned as Host>⟧.built_from host.entry) }
-{
-    host.step(alloc, Event::Octets(1, octets), out)
 }
 
 // The best route of a prefix of length 8: its source and its record.
@@ -144,19 +132,41 @@ const TWELVE: Kept = Kept {
     shared: false,
 };
 
+// A host whose two sessions are up, if the configuration has so many peers.
+fn host_up(alloc: Global, out: &mut Outputs) -> Result<Option<Interned>, Fail>
+    ensures { IfOk result (λ o. IfSome o (λ h. IsPeer (⟦<Interned as Host>⟧.built_from h) 1)) }
+{
+    let Some(host) = make_host(alloc)? else {
+        return Ok(None);
+    };
+    let host = bring_up(alloc, host, 1, &OPEN_1, out)?;
+    Ok(Some(bring_up(alloc, host, 2, &OPEN_2, out)?))
+}
+
+// Octets come from the first peer, and then that much is kept.
+fn expect_after(
+    rt: &(impl AllocGlobal + Abort),
+    host: Interned,
+    octets: &[u8],
+    wanted: Kept,
+    out: &mut Outputs,
+) -> Result<Interned, Fail>
+    requires { IsPeer (⟦<Interned as Host>⟧.built_from host) 1 }
+    ensures { IfOk result (λ h. IsPeer (⟦<Interned as Host>⟧.built_from h) 1) }
+{
+    let host = host.step(rt.alloc(), Event::Octets(1, octets), out)?;
+    assert_eq!(rt; look_at(&host), wanted);
+    Ok(host)
+}
+
 #[test]
 fn prefixes_of_one_update_share_a_record(rt: HostRuntime) -> Result<(), Fail> {
     let alloc = rt.alloc();
     let mut out = Outputs::make(alloc)?;
-    let host = make_host(alloc)?.ok_or("other peers")?;
-    let host = bring_up(alloc, host, 1, &OPEN_1, &mut out)?;
-    let host = bring_up(alloc, host, 2, &OPEN_2, &mut out)?;
+    let host = host_up(alloc, &mut out)?.ok_or("other peers")?;
     assert_eq!(rt; look_at(&host), NONE);
-    let host = hear(alloc, host, &ANNOUNCED, &mut out)?;
-    assert_eq!(rt; look_at(&host), BOTH);
-    let host = hear(alloc, host, &TEN_WITHDRAWN, &mut out)?;
-    assert_eq!(rt; look_at(&host), TWELVE);
-    let host = hear(alloc, host, &TWELVE_WITHDRAWN, &mut out)?;
-    assert_eq!(rt; look_at(&host), NONE);
+    let host = expect_after(&rt, host, &ANNOUNCED, BOTH, &mut out)?;
+    let host = expect_after(&rt, host, &TEN_WITHDRAWN, TWELVE, &mut out)?;
+    let _host = expect_after(&rt, host, &TWELVE_WITHDRAWN, NONE, &mut out)?;
     Ok(())
 }

@@ -48,7 +48,12 @@ fn generated_events_are_counted(rt: HostRuntime) -> Result<(), Fail> {
     let no_groups = done(&["work", "1", "0", "interned"], NO_UPDATES);
     let sorted = done(&["work", "1", "300", "listed"], SORTED);
     let grouped = done(&["work", "1", "300", "interned"], GROUPED);
-    expect(&rt, b"", b"", &[none, no_groups, sorted, sorted, grouped, grouped])
+    expect(
+        &rt,
+        b"",
+        b"",
+        &[none, no_groups, sorted, sorted, grouped, grouped],
+    )
 }
 
 #[test]
