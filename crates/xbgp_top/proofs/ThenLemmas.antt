@@ -4,9 +4,10 @@ use Rattle.std.proofs.Common.{false, if◌then◌else◌, Err, Ok, refl, sym, �
 use Rattle.std.proofs.Math.Seq.{take-append-add, take-length}
 use Rattle.std.proofs.lemmas.List.{take-append-le, take_all}
 use Rattle.std.proofs.lemmas.Bool.{cases_lt}
-use Rattle.xb_io.specs.Causes.{Files, FaultsRose, IsMissing, TookFront, with_text}
+use Rattle.std.specs.Prelude.{IsNone}
+use Rattle.xb_io.specs.Causes.{Files, FaultsRose, IsMissing, TookFront, file_named, with_text}
 use Rattle.xb_io.proofs.PageLemmas.{with_text-nil}
-use Rattle.spk_model.specs.Playing.{Plays, Replayed, replayed}
+use Rattle.spk_model.specs.Playing.{IsReplayed, Plays, Replayed, replay_of, replayed}
 use Rattle.spk_model.specs.declared.host.Setup.{Setup}
 use Rattle.spk_model.specs.declared.play.Played.{Played}
 use Rattle.spk_model.specs.declared.play.Played.TheVariants as ends
@@ -20,6 +21,7 @@ use Rattle.xbgp_top.specs.Inputs.{Gives, Obtains}
 use Rattle.xbgp_top.specs.Outputs.{Writes}
 use Rattle.xbgp_top.specs.Statuses.{played_status}
 use Rattle.xbgp_top.specs.Top.{Explains, IsAnswered, SaysMissing, WasDone}
+use Rattle.xbgp_top.proofs.TopLemmas.{explains_text}
 
 -- one text and then another are the two joined
 text_then : (before now later : Option (List ℕ)) (xs ys : List ℕ) → now ≡ with_text before xs → later ≡ with_text now ys
@@ -44,7 +46,7 @@ front_longer : (before now : Option (List ℕ)) (xs ys : List ℕ) → TookFront
 front_longer before now xs ys front = elim (cases_lt front.0 (length xs)) as (λ _. TookFront before now (xs ++ ys)) [
   | inl short ↦ (
       front.0,
-      front.1 ∙ ap (with_text before) (sym (take-append-le front.0 xs ys (omega short))),
+      front.1 ∙ ap (with_text before) (sym (take-append-le front.0 xs ys (omega (arith, short)))),
     )
   | inr long ↦ (
       length xs,
@@ -101,7 +103,7 @@ missing_by None a b same says = says
 missing_by (Some files) a b same says = sym (same files refl) ∙ says
 
 -- how a replay ended that ended Done
-done_played : (p : Played) → played_status p ≡ Done → p ≡ ends.Done
+pub done_played : (p : Played) → played_status p ≡ Done → p ≡ ends.Done
 done_played ends.Done e = refl
 done_played ends.ReadFault e = absurd (cc e)
 done_played ends.WriteFault e = absurd (cc e)
@@ -109,9 +111,18 @@ done_played (ends.BadLog n) e = absurd (cc e)
 done_played ends.TooLong e = absurd (cc e)
 done_played ends.OutOfMemory e = absurd (cc e)
 
+-- a log that isn't held can't be read
+pub missing_played : (rule : Packing) (setup : Setup) (name : List ℕ) (files : Files) → IsMissing (Some files) name
+    → (replayed rule setup name files).played ≡ ends.ReadFault
+missing_played rule setup name files = by (file_named files name)
+  where
+    by : (o : Option (List ℕ)) → IsNone o → (replay_of rule setup o).played ≡ ends.ReadFault
+    by None none = refl
+    by (Some text) none = absurd (cc none)
+
 module _ {S K : Type 0} (held : S → Option Files) (reads : S → ℕ) (took : K → Option (List ℕ)) (writes : K → ℕ) where
   -- there was no memory for anything
-  explains_no_memory : (shelf : S) (sink : K) (told : Files → Answer)
+  pub explains_no_memory : (shelf : S) (sink : K) (told : Files → Answer)
       → Explains held reads took writes shelf shelf sink sink told OutOfMemory
   explains_no_memory shelf sink told =
       record {
@@ -125,14 +136,30 @@ module _ {S K : Type 0} (held : S → Option Files) (reads : S → ℕ) (took : 
         later_sink = omega arith;
       }
 
+  -- a line was written, and nothing else
+  pub explains_line : (shelf : S) (sink_old sink_new : K) (text : List ℕ) (status : Status)
+      → Writes (answered Done text) took writes sink_old sink_new status
+      → Explains held reads took writes shelf shelf sink_old sink_new (λ files. answered Done text) status
+  explains_line shelf sink_old sink_new text status w =
+      explains_text held reads took writes shelf shelf sink_old sink_new status (λ files. Ok text) text
+      (record {
+        told = λ files e. inl refl;
+        cause = λ none e. absurd (cc e);
+        quiet = λ e. refl;
+        later = omega arith;
+        same = refl;
+        usage = λ e. cc e;
+        write = λ e. cc e;
+      }) w
+
   -- the replay of a log explains how it ended
-  explains_played : (shelf_old shelf_new : S) (sink_old sink_new : K) (name : List ℕ) (replay : Files → Replayed)
-      (played : Played) → ((files : Files) → IsMissing (Some files) name → (replay files).played ≡ ends.ReadFault)
+  pub explains_played : (shelf_old shelf_new : S) (sink_old sink_new : K) (name : List ℕ) (replay : Files → Replayed)
+      (played : Played) (status : Status) → status ≡ played_status played → ((files : Files) → IsMissing (Some files) name → (replay files).played ≡ ends.ReadFault)
       → Plays held reads took writes shelf_old shelf_new sink_old sink_new name replay played
-      → Explains held reads took writes shelf_old shelf_new sink_old sink_new (λ files. replay_done (replay files))
-      (played_status played)
-  explains_played shelf_old shelf_new sink_old sink_new name replay played none p =
-      record {
+      → Explains held reads took writes shelf_old shelf_new sink_old sink_new (λ files. replay_done (replay files)) status
+  explains_played shelf_old shelf_new sink_old sink_new name replay played status ends_so none p =
+      subst (λ (s : Status). Explains held reads took writes shelf_old shelf_new sink_old sink_new
+      (λ files. replay_done (replay files)) s) (sym ends_so) (record {
         exact = λ files e a b memory.
             let is = p.exact files e a b (λ m. memory (ap played_status m)) in
             (ap played_status is.0, λ read. is.1 (λ m. read (ap played_status m)));
@@ -147,7 +174,7 @@ module _ {S K : Type 0} (held : S → Option Files) (reads : S → ℕ) (took : 
         quiet_sink = λ write memory. p.quiet_sink (λ m. write (ap played_status m)) (λ m. memory (ap played_status m));
         later_shelf = p.later_shelf;
         later_sink = p.later_sink;
-      }
+      })
     where
       by : (h : Option Files) → IsMissing h name → SaysMissing h (λ files. replay_done (replay files))
       by None missing = missing
@@ -170,7 +197,7 @@ module _ {S K : Type 0} (held : S → Option Files) (reads : S → ℕ) (took : 
       write_played ends.OutOfMemory e = absurd (cc e)
 
   -- a step over the shelf gave a value, and what follows needs no other
-  explains_after : {A : Type 0} (shelf_old shelf_mid shelf_new : S) (sink_old sink_new : K) (want : Files → Outcome A)
+  pub explains_after : {A : Type 0} (shelf_old shelf_mid shelf_new : S) (sink_old sink_new : K) (want : Files → Outcome A)
       (x : A) (next told : Files → Answer) (status : Status)
       → ((files : Files) → want files ≡ Ok x → told files ≡ next files)
       → Obtains held reads shelf_old shelf_mid want (Ok x)
@@ -209,7 +236,7 @@ module _ {S K : Type 0} (held : S → Option Files) (reads : S → ℕ) (took : 
       ]
 
   -- an answer was given and isn't Done, so no other follows
-  explains_last : (shelf_old shelf_new : S) (sink_old sink_new : K) (first next : Files → Answer) (status : Status)
+  pub explains_last : (shelf_old shelf_new : S) (sink_old sink_new : K) (first next : Files → Answer) (status : Status)
       → status ≢ Done → Explains held reads took writes shelf_old shelf_new sink_old sink_new first status
       → Explains held reads took writes shelf_old shelf_new sink_old sink_new
       (λ files. then_answer (first files) (next files)) status
@@ -240,7 +267,7 @@ module _ {S K : Type 0} (held : S → Option Files) (reads : S → ℕ) (took : 
           ap (λ (a : Answer). a.status) (then-other (first files) (next files) ReadFault says (λ e. cc e)) ∙ says
 
   -- an answer was given that is Done, and the next one after it
-  explains_then : (shelf_old shelf_mid shelf_new : S) (sink_old sink_mid sink_new : K) (first next : Files → Answer)
+  pub explains_then : (shelf_old shelf_mid shelf_new : S) (sink_old sink_mid sink_new : K) (first next : Files → Answer)
       (status : Status) → WasDone (held shelf_old) (took sink_old) (took sink_mid) first
       → held shelf_mid ≡ held shelf_old → reads shelf_mid ≡ reads shelf_old → writes sink_mid ≡ writes sink_old
       → Explains held reads took writes shelf_mid shelf_new sink_mid sink_new next status
@@ -278,3 +305,17 @@ module _ {S K : Type 0} (held : S → Option Files) (reads : S → ℕ) (took : 
         later_shelf = omega (arith, e.later_shelf, calm_reads);
         later_sink = omega (arith, e.later_sink, calm_writes);
       }
+
+  -- a title was written, and then a replay that ended Done
+  pub titled_done : (held_now : Option Files) (sink_old sink_mid sink_new : K) (title : List ℕ) (replay : Files → Replayed)
+      → took sink_mid ≡ with_text (took sink_old) title
+      → ((files : Files) → held_now ≡ Some files
+      → IsReplayed (replay files) (took sink_mid) (took sink_new) ends.Done)
+      → WasDone held_now (took sink_old) (took sink_new)
+      (λ files. then_answer (answered Done title) (replay_done (replay files)))
+  titled_done held_now sink_old sink_mid sink_new title replay titled whole files has =
+      let is = whole files has in (
+        ap played_status (sym is.0),
+        text_then (took sink_old) (took sink_mid) (took sink_new) title (replay files).text titled
+            (is.1 (λ e. cc e)),
+      )

@@ -49,18 +49,26 @@ o >>= f = option_and_then f o
 abbrev pub count_of : List ℕ → Option ℕ
 count_of word = read_decimal word >>= (λ count. if nat_lt MAX_UPDATES count then None else Some count)
 
+-- the check of a configuration and a manifest
+abbrev pub check_of : List ℕ → List ℕ → List ℕ → Option Command
+check_of word config manifest = if bytes_eq word (codes "check") then Some (check config manifest) else None
+
 -- events that are generated from a number
-abbrev pub work_of : List ℕ → List ℕ → List ℕ → Option Command
-work_of number count host =
-    read_decimal number >>= (λ n. count_of count >>= (λ c. host_of host >>= (λ h. Some (work n c h))))
+abbrev pub work_of : List ℕ → List ℕ → List ℕ → List ℕ → Option Command
+work_of word number count host =
+    if bytes_eq word (codes "work")
+    then read_decimal number >>= (λ n. count_of count >>= (λ c. host_of host >>= (λ h. Some (work n c h))))
+    else None
+
+-- the replay of a log
+abbrev pub replay_of : List ℕ → List ℕ → List ℕ → List ℕ → List ℕ → Option Command
+replay_of word hosts config manifest log =
+    if bytes_eq word (codes "replay") then option_map (λ h. replay h config manifest log) (hosts_of hosts) else None
 
 -- the command that words are
 abbrev pub command_of : List (List ℕ) → Option Command
 command_of (word ∷ name ∷ []) = option_map (λ job. on_file job name) (job_of word)
-command_of (word ∷ config ∷ manifest ∷ []) =
-    if bytes_eq word (codes "check") then Some (check config manifest) else None
-command_of (word ∷ number ∷ count ∷ host ∷ []) =
-    if bytes_eq word (codes "work") then work_of number count host else None
-command_of (word ∷ hosts ∷ config ∷ manifest ∷ log ∷ []) =
-    if bytes_eq word (codes "replay") then option_map (λ h. replay h config manifest log) (hosts_of hosts) else None
+command_of (word ∷ config ∷ manifest ∷ []) = check_of word config manifest
+command_of (word ∷ number ∷ count ∷ host ∷ []) = work_of word number count host
+command_of (word ∷ hosts ∷ config ∷ manifest ∷ log ∷ []) = replay_of word hosts config manifest log
 command_of words = None

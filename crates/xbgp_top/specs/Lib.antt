@@ -4,7 +4,7 @@ pub mod Commands
 pub mod Summaries
 pub mod Answers
 pub mod Inputs
-mod Kept
+pub mod Kept
 pub mod Outputs
 pub mod Top
 pub mod Views

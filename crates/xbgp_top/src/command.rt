@@ -1,7 +1,8 @@
 //! The commands of the program, read from the words of the command line.
 ghost use Rattle.std.specs.Prelude.{◌≡◌, map, string_bytes};
 ghost use Rattle.std.specs.Option.{option_map};
-ghost use Rattle.xbgp_top.specs.Commands.{command_of, count_of, host_of, hosts_of, job_of, work_of};
+ghost use Rattle.xbgp_top.specs.Commands.{check_of, command_of, count_of, host_of, hosts_of, job_of};
+ghost use Rattle.xbgp_top.specs.Commands.{replay_of, work_of};
 ghost use Rattle.xbgp_top.specs.Views.{command_view};
 
 use xb_values::read_decimal;
@@ -97,10 +98,41 @@ fn count_in(word: &str) -> Option<u32>
     }
 }
 
-// The command of generated events.
-fn work_in(number: &str, count: &str, host: &str) -> Option<Command<'static>>
-    ensures { option_map command_view result ≡ work_of number.now count.now host.now }
+// The check of a configuration and a manifest.
+fn check_in<'a>(word: &str, config: &'a str, manifest: &'a str) -> Option<Command<'a>>
+    ensures { option_map command_view result ≡ check_of word.now config.now manifest.now }
 {
+    if word == "check" {
+        Some(Command::Check(config, manifest))
+    } else {
+        None
+    }
+}
+
+// The replay of a log.
+fn replay_in<'a>(
+    word: &str,
+    hosts: &str,
+    config: &'a str,
+    manifest: &'a str,
+    log: &'a str,
+) -> Option<Command<'a>>
+    ensures { option_map command_view result ≡ replay_of word.now hosts.now config.now manifest.now log.now }
+{
+    if word != "replay" {
+        return None;
+    }
+    let hosts = hosts_in(hosts)?;
+    Some(Command::Replay(hosts, config, manifest, log))
+}
+
+// The command of generated events.
+fn work_in(word: &str, number: &str, count: &str, host: &str) -> Option<Command<'static>>
+    ensures { option_map command_view result ≡ work_of word.now number.now count.now host.now }
+{
+    if word != "work" {
+        return None;
+    }
     let number = read_decimal(number.as_bytes())?;
     let count = count_in(count)?;
     let host = host_in(host)?;
@@ -116,16 +148,19 @@ pub(crate) fn command_in(words: &[String]) -> Option<Command<'_>>
             Some(job) => Some(Command::File(job, name.as_str())),
             None => None,
         },
-        [word, config, manifest] if word.as_str() == "check" => {
-            Some(Command::Check(config.as_str(), manifest.as_str()))
+        [word, config, manifest] => {
+            check_in(word.as_str(), config.as_str(), manifest.as_str())
         }
-        [word, number, count, host] if word.as_str() == "work" => {
-            work_in(number.as_str(), count.as_str(), host.as_str())
+        [word, number, count, host] => {
+            work_in(word.as_str(), number.as_str(), count.as_str(), host.as_str())
         }
-        [word, hosts, config, manifest, log] if word.as_str() == "replay" => {
-            let hosts = hosts_in(hosts.as_str())?;
-            Some(Command::Replay(hosts, config.as_str(), manifest.as_str(), log.as_str()))
-        }
+        [word, hosts, config, manifest, log] => replay_in(
+            word.as_str(),
+            hosts.as_str(),
+            config.as_str(),
+            manifest.as_str(),
+            log.as_str(),
+        ),
         _ => None,
     }
 }

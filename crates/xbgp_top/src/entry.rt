@@ -1,7 +1,8 @@
 //! The top call: the words' command is found, its inputs are read, and its answer is written.
 ghost use Rattle.std.specs.Prelude.{◌≡◌, ◌≢◌, ◌≤◌, ◌⊎◌, Ok, Some, map, string_bytes};
 ghost use Rattle.xb_io.specs.Causes.{Files, FaultsRose, TookFront};
-ghost use Rattle.xbgp_top.specs.Answers.{answer, command_answer, ended, job_outcome, rule_of};
+ghost use Rattle.xbgp_top.specs.Answers.{answer, command_answer, ended, job_outcome, replay_answer, rule_of};
+ghost use Rattle.xbgp_top.specs.Answers.{setup_input};
 ghost use Rattle.xbgp_top.specs.Commands.{check, command_of, on_file, replay};
 ghost use Rattle.xbgp_top.specs.Outputs.{Writes};
 ghost use Rattle.xbgp_top.specs.Summaries.{work_text};
@@ -68,7 +69,32 @@ fn check_files<S: Shelf, K: Sink>(
     print_text(alloc, text, sink)
 }
 
-// Replays a log on speakers.
+// Replays a log on a speaker.
+fn replay_one<S: Shelf, K: Sink>(
+    alloc: Global,
+    host: HostName,
+    config: &str,
+    manifest: &str,
+    log: &str,
+    shelf: &mut S,
+    sink: &mut K,
+) -> Status
+    ensures explains { let setup = setup_input config.now manifest.now in
+        Explains S.held S.faults K.took K.faults shelf.old shelf.new sink.old sink.new
+        (λ (files : Files). replay_answer (rule_of host) (setup files) log.now files) result }
+    ensures command { result ≢ Status.Usage }
+{
+    match host {
+        HostName::Interned => {
+            replay_on::<Interned, S, K>(alloc, config, manifest, log, shelf, sink)
+        }
+        HostName::Listed => {
+            replay_on::<Listed, S, K>(alloc, config, manifest, log, shelf, sink)
+        }
+    }
+}
+
+// Replays a log on one speaker or on both.
 fn replay_files<S: Shelf, K: Sink>(
     alloc: Global,
     hosts: Hosts,
@@ -83,12 +109,7 @@ fn replay_files<S: Shelf, K: Sink>(
     ensures command { result ≢ Status.Usage }
 {
     match hosts {
-        Hosts::One(HostName::Interned) => {
-            replay_on::<Interned, S, K>(alloc, config, manifest, log, shelf, sink)
-        }
-        Hosts::One(HostName::Listed) => {
-            replay_on::<Listed, S, K>(alloc, config, manifest, log, shelf, sink)
-        }
+        Hosts::One(host) => replay_one(alloc, host, config, manifest, log, shelf, sink),
         Hosts::Both => replay_both(alloc, config, manifest, log, shelf, sink),
     }
 }

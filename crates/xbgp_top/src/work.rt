@@ -31,8 +31,8 @@ use xbgp_manifest::Manifest;
 // A count for each peer's number; 0 is no peer's.
 const NUMBERS: usize = 5;
 
-// Room for the line of a peer: a word, three numbers of at most 10, 20 and 20 digits, three spaces and the line's end.
-const PEER_ROOM: usize = 64;
+// Room for the line of a peer: a word, three numbers of at most 20 digits, three spaces and the line's end.
+const PEER_ROOM: usize = 68;
 
 // Room for two lines of a word and a count, four lines of peers, and the last line.
 const SUMMARY_ROOM: usize = 384;

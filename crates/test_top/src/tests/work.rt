@@ -12,12 +12,22 @@ peer 4 0 56
 end
 ";
 
-const MANY_UPDATES: &str = "updates 300
+// By a speaker that packs by order of prefixes, and by one that packs by groups of equal attributes.
+const SORTED: &str = "updates 300
 routes 220
 peer 1 170 8460
 peer 2 158 7905
 peer 3 170 8491
 peer 4 162 9138
+end
+";
+
+const GROUPED: &str = "updates 300
+routes 220
+peer 1 170 7663
+peer 2 158 6979
+peer 3 170 7565
+peer 4 162 8370
 end
 ";
 
@@ -35,8 +45,10 @@ const NO_WORK: [&[&str]; 7] = [
 #[test]
 fn generated_events_are_counted(rt: HostRuntime) -> Result<(), Fail> {
     let none = done(&["work", "1", "0", "listed"], NO_UPDATES);
-    let many = done(&["work", "1", "300", "listed"], MANY_UPDATES);
-    expect(&rt, b"", b"", &[none, many, many])
+    let no_groups = done(&["work", "1", "0", "interned"], NO_UPDATES);
+    let sorted = done(&["work", "1", "300", "listed"], SORTED);
+    let grouped = done(&["work", "1", "300", "interned"], GROUPED);
+    expect(&rt, b"", b"", &[none, no_groups, sorted, sorted, grouped, grouped])
 }
 
 #[test]

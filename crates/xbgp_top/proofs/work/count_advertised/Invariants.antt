@@ -1,4 +1,4 @@
-use Rattle.std.proofs.Common.{◌≡◌, ◌+◌, ◌≤◌, length}
+use Rattle.std.proofs.Common.{◌≡◌, ◌+◌, ◌-◌, ◌^◌, ◌≤◌, length}
 use Rattle.xb_words.specs.Table.{entries_after}
 use Rattle.xb_values.specs.Prefixes.{prefix_cmp}
 use Rattle.bgp_attr.specs.declared.TheConstants.{MAX_CANONICAL}
@@ -12,6 +12,7 @@ invariant-prefixes g l =
     let adv = (tables_of (g.H.Host.speaker l.host).routing l.peer).adv in
     record {
       room : MAX_CANONICAL ≤ l.section.capacity;
+      within : l.count ≤ 2 ^ 64 - 1;
       count : capped (l.count + length (entries_after prefix_cmp adv l.after)) ≡ capped (length adv);
     }
 

@@ -1,4 +1,4 @@
-use Rattle.std.proofs.Common.{◌≡◌, ◌+◌, ◌≤◌, length}
+use Rattle.std.proofs.Common.{◌≡◌, ◌+◌, ◌-◌, ◌^◌, ◌≤◌, length}
 use Rattle.xb_words.specs.Table.{entries_after}
 use Rattle.xb_values.specs.Prefixes.{prefix_cmp}
 use Rattle.bgp_attr.specs.declared.TheConstants.{MAX_CANONICAL}
@@ -11,6 +11,7 @@ invariant-routes g l =
     let best = ((g.H.Host.speaker l.host).routing).best in
     record {
       room : MAX_CANONICAL ≤ l.section.capacity;
+      within : l.count ≤ 2 ^ 64 - 1;
       count : capped (l.count + length (entries_after prefix_cmp best l.after)) ≡ capped (length best);
     }
 
