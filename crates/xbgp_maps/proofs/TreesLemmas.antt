@@ -1,5 +1,5 @@
 -- What the calls on a node's tree are on the trees at its sides.
-use Rattle.std.proofs.Common.{◌≡◌, ℕ, ◌<◌, Bool, true, false, List, [], ◌∷◌, ◌++◌, length, Some, refl, sym, arith, length-append}
+use Rattle.std.proofs.Common.{◌≡◌, ℕ, ◌<◌, Bool, true, false, List, [], ◌∷◌, ◌++◌, length, Option, Some, None, refl, sym, arith, length-append}
 use Rattle.std.specs.declared.cmp.Ordering.TheVariants.{Less, Equal, Greater}
 use Rattle.std.proofs.lemmas.Cmp.{nat_list_cmp_total}
 use Rattle.std.proofs.lemmas.Map.Lookups.{exact_bytes}
@@ -62,6 +62,25 @@ first_cut (l ∷ ls) e rs = refl
 pub first_below : (n : Node) → first_of (entries_below n) ≡ middle.or_entry (first_of (entries_of n.left)) (entry_of n)
 first_below n = first_cut (entries_of n.left) (entry_of n) (entries_of n.right)
 
+-- an entry that was found, or else another one
+abbrev pub or_found : Option (List ℕ × List ℕ) → Option (List ℕ × List ℕ) → Option (List ℕ × List ℕ)
+or_found None other = other
+or_found (Some e) other = Some e
+
+-- with no other one it is what was found
+pub found_or_none : (found : Option (List ℕ × List ℕ)) → or_found found None ≡ found
+found_or_none None = refl
+found_or_none (Some e) = refl
+
+found_or_entry : (found other : Option (List ℕ × List ℕ)) (e : List ℕ × List ℕ) → or_found (middle.or_entry found e) other ≡ or_found found (Some e)
+found_or_entry None other e = refl
+found_or_entry (Some f) other e = refl
+
+-- the entry after a lower key, or another one, is one at the left, or the node's
+pub found_left : (n : Node) (q : List ℕ) (other : Option (List ℕ × List ℕ)) → key_cmp q n.key.items ≡ Less
+    → or_found (entry_after key_cmp (entries_below n) (Some q)) other ≡ or_found (entry_after key_cmp (entries_of n.left) (Some q)) (Some (entry_of n))
+found_left n q other less = rw (after_left n q less) (found_or_entry (entry_after key_cmp (entries_of n.left) (Some q)) other (entry_of n))
+
 -- the values at the left have the width
 pub values_left : (n : Node) (w : ℕ) → HaveWidth w (entries_below n) → HaveWidth w (entries_of n.left)
 values_left n w a = record { all = AllByRecursion-left (λ e. length e.1 ≡ w) (entries_of n.left) (entry_of n ∷ entries_of n.right) a.all }
@@ -117,7 +136,7 @@ pub ruleset sides = (smaller_left, smaller_right, left_rises, right_rises)
 
 pub ruleset look_up = (sides, value_left, value_here, value_right)
 
-pub ruleset walk = (sides, first_below, after_left, after_here, after_right)
+pub ruleset walk = (sides, first_below, after_left, after_here, after_right, found_or_none, found_left)
 
 pub ruleset write = (look_up, with_left, with_here, with_right)
 

@@ -19,17 +19,16 @@ pub(crate) fn find<'t>(tree: &'t Tree, key: &[u8]) -> Option<&'t [u8]>
     requires { IsRising key_cmp (entries_of tree.now) }
     ensures { option_map (λ v. v.now) result ≡ value_at key_cmp (entries_of tree.now) key.now }
 {
-    match tree {
-        Tree::Leaf => None,
-        Tree::Fork(node) => {
-            let node = &**node;
-            match order(key, &node.key) {
-                Ordering::Less => find(&node.left, key),
-                Ordering::Greater => find(&node.right, key),
-                Ordering::Equal => Some(node.value.as_slice()),
-            }
+    let mut rest = tree;
+    'nodes: while let Tree::Fork(node) = rest {
+        let node = &**node;
+        match order(key, &node.key) {
+            Ordering::Less => rest = &node.left,
+            Ordering::Greater => rest = &node.right,
+            Ordering::Equal => return Some(node.value.as_slice()),
         }
     }
+    None
 }
 
 // The key and the value of a node.
@@ -62,19 +61,19 @@ pub(crate) fn first_after<'t>(tree: &'t Tree, key: &[u8]) -> Option<(&'t [u8], &
     requires { IsRising key_cmp (entries_of tree.now) }
     ensures { option_map (λ e. (e.0.now, e.1.now)) result ≡ entry_after key_cmp (entries_of tree.now) (Some key.now) }
 {
-    match tree {
-        Tree::Leaf => None,
-        Tree::Fork(node) => {
-            let node = &**node;
-            match order(key, &node.key) {
-                Ordering::Less => match first_after(&node.left, key) {
-                    None => Some(entry(node)),
-                    found => found,
-                },
-                _ => first_after(&node.right, key),
+    let mut rest = tree;
+    let mut found = None;
+    'nodes: while let Tree::Fork(node) = rest {
+        let node = &**node;
+        match order(key, &node.key) {
+            Ordering::Less => {
+                found = Some(entry(node));
+                rest = &node.left;
             }
+            _ => rest = &node.right,
         }
     }
+    found
 }
 
 /// Overwrites octets with others of the same length.
