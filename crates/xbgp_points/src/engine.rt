@@ -4,7 +4,7 @@ ghost use Rattle.xb_words.specs.Table.{has_key};
 ghost use Rattle.spk_native.specs.Export.{native_section};
 ghost use Rattle.xbgp_maps.specs.Mappings.{closed, shapes_of};
 ghost use Rattle.xbgp_manifest.specs.Manifests.{entry_shapes};
-ghost use Rattle.xb_domain.specs.declared.point.Point.TheVariants.{Decision, Outbound};
+ghost use Rattle.xb_domain.specs.declared.point.Point.TheVariants.{Decision, Encode, Outbound};
 ghost use Rattle.xbgp_points.specs.Chains.{fault_cmp, is_sendable, programs_at};
 ghost use Rattle.xbgp_points.specs.Engines.{started, Answers, IsUndone, KeepsRoute};
 ghost use Rattle.xbgp_points.specs.Points.{encode, given_section, inbound, outbound, prefer, receive, section_left};
@@ -190,6 +190,13 @@ impl Engine {
         ensures { result ≡ not (length (programs_at self.now.manifest Outbound) == 0) }
     {
         !self.orders.outbound.is_empty()
+    }
+
+    /// Whether there is a program at encode.
+    pub fn runs_at_encode(&self) -> bool
+        ensures { result ≡ not (length (programs_at self.now.manifest Encode) == 0) }
+    {
+        !self.orders.encode.is_empty()
     }
 
     /// Runs the programs at encode on the route that outbound left, of which `native` is the native section. After a
