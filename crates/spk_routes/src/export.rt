@@ -1,26 +1,30 @@
 // What a best route becomes for a peer.
-ghost use Rattle.std.specs.Prelude.{◌≡◌, ◌≤◌, [], length, Some, None, IfOk, IsTrue, MatchBool};
+ghost use Rattle.std.specs.Prelude.{◌≡◌, [], true, IfOk, MatchBool};
 ghost use Rattle.std.specs.Bool.{OnTrue};
-ghost use Rattle.bgp_attr.specs.Routes.{route_of, IsRoute};
+ghost use Rattle.bgp_attr.specs.Routes.{IsRoute};
 ghost use Rattle.spk_native.specs.Export.{carry};
 ghost use Rattle.spk_native.specs.Filters.{accepts_outbound};
-ghost use Rattle.spk_native.specs.Receipt.{wire};
 ghost use Rattle.spk_native.specs.Values.{HasNoFault};
+ghost use Rattle.xb_domain.specs.declared.point.Point.TheVariants.{Outbound};
+ghost use Rattle.xbgp_points.specs.Chains.{programs_at};
 ghost use Rattle.xbgp_points.specs.Points.{outbound};
 ghost use Rattle.spk_model.specs.Choosing.{Trace};
-ghost use Rattle.spk_model.specs.Exporting.{accepted, encoded_for, exported, short_enough};
+ghost use Rattle.spk_model.specs.Exporting.{accepted, encoded_for, exported};
+ghost use Rattle.spk_native.specs.Filters.{is_external};
 ghost use Rattle.spk_routes.specs.Exports.{given_or, Exports, IsRefused, Passes};
-ghost use Rattle.spk_routes.specs.Rooms.{HaveRoom};
+ghost use Rattle.spk_routes.specs.Forms.{formed, IsWritten, RunsNone};
+ghost use Rattle.spk_routes.specs.Rooms.{HaveForms, HaveRoom};
 ghost use Rattle.spk_routes.specs.Sound.{IsSound};
 
+use crate::forms::{Form, terms_of};
+use crate::section::{see_shape, write_form};
 use crate::sides::{local_of, local_pref_of};
 use bgp_attr::MAX_CANONICAL;
-use spk_native::{export_attrs, narrow_route, native_section, outbound_native};
+use spk_native::{EXTERNAL, export_attrs, native_section, outbound_native};
 use std::alloc::{AllocError, Global};
 use std::marker::Model;
 use xb_domain::Side;
 use xb_values::{Buf, Prefix};
-use xb_wire::numbers::MAX_SECTION;
 use xbgp_config::Config;
 use xbgp_points::{Engine, Outcome};
 use xbgp_view::{Overlay, RouteView, write_section};
@@ -33,22 +37,30 @@ struct Sections {
     sent: Buf,
 }
 
+// What external and internal peers were sent last while no program ran.
+#[derive(Drop)]
+struct Forms {
+    external: Form,
+    internal: Form,
+}
+
 /// Exports best routes to peers. All room is taken when it is made. Contracts see the section that was written last.
 #[derive(Drop)]
 pub struct Exporter {
     route: Overlay,
     sections: Sections,
+    forms: Forms,
 }
 
 impl Model for Exporter {
     ghost use Rattle.std.specs.Prelude.{ℕ, List};
-    ghost use Rattle.spk_routes.specs.Rooms.{HaveRoom};
+    ghost use Rattle.spk_routes.specs.Rooms.{HaveRoom, HaveForms};
 
     ghost Value = { List ℕ };
 
     ghost view = { λ e. e.sections.sent.octets };
 
-    ghost invariant = { λ e. HaveRoom e.sections };
+    ghost invariant = { λ e. HaveRoom e.sections × HaveForms e.forms };
 }
 
 /// Whether a chain accepts: by its verdict, which is 1, or else as the native function does.
@@ -71,43 +83,50 @@ fn given_section<'a>(outcome: &Outcome, given: &'a [u8], native: &'a [u8]) -> &'
     }
 }
 
-// Shows contracts that an overlay has a route that a view may show.
-fn see_shape(route: &Overlay)
-    ensures { IsRoute route.now.route }
-{
-    let _ = route.code_from(0);
-}
-
-// Writes a section in the form of a session, and returns whether it is short enough to be sent.
-fn write_form(section: &[u8], wide: bool, route: &mut Overlay, out: &mut Buf) -> bool
-    requires short { length section.now ≤ MAX_CANONICAL }
-    requires faultless { HasNoFault (route_of section.now) }
-    requires room { out.old.capacity ≡ MAX_CANONICAL }
-    ensures written { MatchBool result
-        (short_enough (wire section.now wide) ≡ Some out.new.octets)
-        (short_enough (wire section.now wide) ≡ None) }
-    ensures capacity { out.new.capacity ≡ MAX_CANONICAL }
-{
-    if wide {
-        if section.len() > MAX_SECTION {
-            return false;
-        }
-        out.replace(section);
-        return true;
-    }
-    route.read(section);
-    if !narrow_route(route) {
-        return false;
-    }
-    write_section(route, out);
-    true
-}
-
 // Whether no program runs at outbound and the native function refuses there.
 fn is_refused(engine: &Engine, source: &Side, peer: &Side) -> bool
-    ensures { OnTrue result (IsRefused engine.now source.now peer.now) }
+    ensures { MatchBool result (IsRefused engine.now source.now peer.now)
+        (programs_at engine.now.manifest Outbound ≡ [] → accepts_outbound source.now peer.now ≡ true) }
 {
     !engine.runs_at_outbound() && !outbound_native(source, peer)
+}
+
+// Whether no program runs at outbound and at encode.
+fn runs_none(engine: &Engine) -> bool
+    ensures { OnTrue result (RunsNone engine.now) }
+{
+    !engine.runs_at_outbound() && !engine.runs_at_encode()
+}
+
+// Writes what a peer is sent of a best route if no program runs, and returns whether it is short enough.
+fn write_natively<R: RouteView>(
+    route: &mut Overlay,
+    forms: &mut Forms,
+    config: &Config,
+    peer: &Side,
+    wide: bool,
+    best: &R,
+    out: &mut Sections,
+) -> bool
+    requires sound { IsSound (R.route best.now) }
+    requires room { HaveRoom out.old }
+    requires forms { HaveForms forms.old }
+    ensures written { IsWritten result out.new.sent.octets
+        (formed
+        (record { external = is_external peer.now; wide = wide; local = config.now.local;
+        local_pref = config.now.local_pref })
+        (R.route best.now)) }
+    ensures room { HaveRoom out.new }
+    ensures forms { HaveForms forms.new }
+{
+    let terms = terms_of(config, peer, wide);
+    write_section(best, &mut out.given);
+    let section = out.given.as_slice();
+    if peer.kind == EXTERNAL {
+        forms.external.write(terms, section, peer, route, &mut out.native, &mut out.sent)
+    } else {
+        forms.internal.write(terms, section, peer, route, &mut out.native, &mut out.sent)
+    }
 }
 
 // Carries a best route over to a peer, and returns whether it passes outbound.
@@ -186,6 +205,10 @@ impl Exporter {
                 given: Buf::make(alloc, MAX_CANONICAL)?,
                 sent: Buf::make(alloc, MAX_CANONICAL)?,
             },
+            forms: Forms {
+                external: Form::make(alloc)?,
+                internal: Form::make(alloc)?,
+            },
         })
     }
 
@@ -218,6 +241,17 @@ impl Exporter {
     {
         if is_refused(engine, source, peer) {
             return false;
+        }
+        if runs_none(engine) {
+            return write_natively(
+                &mut self.route,
+                &mut self.forms,
+                config,
+                peer,
+                wide,
+                best,
+                &mut self.sections,
+            );
         }
         if !pass_outbound(&mut self.route, engine, config, peer, source, prefix, best) {
             return false;

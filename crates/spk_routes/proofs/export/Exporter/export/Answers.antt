@@ -1,4 +1,4 @@
-use Rattle.spk_routes.proofs.ExportLemmas.{not_advertised, not_passed, then_encoded}
+use Rattle.spk_routes.proofs.ExportLemmas.{advertised_natively, not_advertised, not_passed, then_encoded}
 use Rattle.spk_routes.proofs.export.Exporter.export.Goals as goal
 
 pub returns-then-is_refused : goal.returns-then-is_refused
@@ -18,3 +18,10 @@ returns g c =
     c.args.config.now.local_pref c.args.peer.now c.args.wide c.args.source.now c.args.prefix
     (g.R.RouteView.route c.args.best.now) c.pass_outbound.new.route.route c.encode_route.result _
     c.requires.local c.if-not-pass_outbound.ensures c.encode_route.ensures.exports
+
+pub returns-then-runs_none : goal.returns-then-runs_none
+returns-then-runs_none g c =
+    advertised_natively c.args.engine.now c.args.config.now.local c.args.config.now.local_pref c.args.peer.now
+    c.args.wide c.args.source.now c.args.prefix (g.R.RouteView.route c.args.best.now) c.write_natively.result _
+    c.if-runs_none.ensures (c.if-not-is_refused.ensures c.if-runs_none.ensures.outbound)
+    c.write_natively.ensures.written
