@@ -1,6 +1,6 @@
 -- What the export of a best route leaves.
 use Rattle.std.proofs.Common.{◌≡◌, inl, inr, refl, sym, ◌∙◌, ap, subst, ℕ, ◌≤◌, Bool, true, false, List, [], ◌∷◌, ◌++◌}
-use Rattle.std.proofs.Common.{length, Option, Some, None, nat_le, tt}
+use Rattle.std.proofs.Common.{length, Option, None, nat_le}
 use Rattle.std.specs.Prelude.{if◌then◌else◌}
 use Rattle.std.specs.Option.{IfSome}
 use Rattle.std.proofs.lemmas.Bool.{cases_Bool, leb-true}
@@ -151,11 +151,12 @@ encoded_natively e local peer wide source best route trace none =
     let world = world_of e.engine local peer source nowhere 0 route best source in
     let ends : List (ℕ × ProgramEntry) → Called =
     λ ps. called (chain_from Encode [] world e.engine.faults ps world) in
-    ap (λ (ps : List (ℕ × ProgramEntry)). the Exported (record {
+    let by : List (ℕ × ProgramEntry) → Exported = λ ps. record {
       section = short_enough (wire (section_or (given_section (ends ps)) (native_section route)) wide);
       engine = (ends ps).engine;
       trace = trace ++ (Encode, (ends ps).outcome) ∷ [];
-    })) none
+    } in
+    ap by none
 
 short_enough_is_short : (section : List ℕ) → IfSome (short_enough section) (λ s. length s ≤ MAX_SECTION)
 short_enough_is_short section =

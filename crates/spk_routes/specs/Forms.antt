@@ -41,9 +41,10 @@ pub record AreAlike (a b : Terms) : Type 0 where
   pub address : (a.local).address ≡ (b.local).address
 
 -- a form was made of a section, by terms or by some that are like them
-pub record IsOf (f : Form) (section : List ℕ) (terms : Terms) : Type 0 where
-  pub terms : IsSome f.terms × IfSome f.terms (λ t. AreAlike t terms)
-  pub section : f.from.octets ≡ section
+pub record IsOf (f : Form) (section : List ℕ) (by : Terms) : Type 0 where
+  pub made : IsSome f.terms
+  pub alike : IfSome f.terms (λ t. AreAlike t by)
+  pub from : f.from.octets ≡ section
 
 -- no program runs at outbound and at encode
 pub record RunsNone (e : Kept) : Type 0 where

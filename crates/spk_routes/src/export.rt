@@ -113,8 +113,12 @@ fn write_natively<R: RouteView>(
     requires forms { HaveForms forms.old }
     ensures written { IsWritten result out.new.sent.octets
         (formed
-        (record { external = is_external peer.now; wide = wide; local = config.now.local;
-        local_pref = config.now.local_pref })
+        (record {
+          external = is_external peer.now;
+          wide = wide;
+          local = config.now.local;
+          local_pref = config.now.local_pref;
+        })
         (R.route best.now)) }
     ensures room { HaveRoom out.new }
     ensures forms { HaveForms forms.new }

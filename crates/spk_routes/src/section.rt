@@ -9,7 +9,7 @@ use bgp_attr::MAX_CANONICAL;
 use spk_native::narrow_route;
 use xb_values::Buf;
 use xb_wire::numbers::MAX_SECTION;
-use xbgp_view::{Overlay, write_section};
+use xbgp_view::{Overlay, RouteView, write_section};
 
 /// Shows contracts that an overlay has a route that a view may show.
 pub(crate) fn see_shape(route: &Overlay)

@@ -23,5 +23,5 @@ pub returns-then-runs_none : goal.returns-then-runs_none
 returns-then-runs_none g c =
     advertised_natively c.args.engine.now c.args.config.now.local c.args.config.now.local_pref c.args.peer.now
     c.args.wide c.args.source.now c.args.prefix (g.R.RouteView.route c.args.best.now) c.write_natively.result _
-    c.if-runs_none.ensures (c.if-not-is_refused.ensures c.if-runs_none.ensures.outbound)
+    c.if-runs_none.ensures (c.if-is_refused.ensures c.if-runs_none.ensures.outbound)
     c.write_natively.ensures.written
