@@ -19,6 +19,7 @@ mod id;
 mod ids;
 mod pool;
 mod record;
+mod sum;
 
 pub use id::RecordId;
 pub use pool::Pool;
