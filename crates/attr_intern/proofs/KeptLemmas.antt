@@ -77,7 +77,7 @@ AreIndexed-shared old new ids key o was here others is =
 -- a new record
 pub AreIndexed-added : (old new : Slab Owned) (ids added : SectionIds) (key : ℕ) (section : List ℕ) (route : Route)
     → get old key ≡ None → get new key ≡ Some (record { route = route; owners = 1 }) → KeepsOthers old new key
-    → IsCanonical section → route_of section ≡ route → id_of ids section ≡ None
+    → IsCanonical section → route_of section ≡ route → None ≡ id_of ids section
     → ChangesId ids added section (Some key) → AreIndexed old ids → AreIndexed new added
 AreIndexed-added old new ids added key section route vacant here others canonical means free more is =
     let w : Owned = record { route = route; owners = 1 } in
@@ -197,10 +197,10 @@ pub record IsMeant (slab : Slab Owned) (key : ℕ) (route : Route) : Type 0 wher
   pub means : shared.route ≡ route
 
 pub IsMeant-found : (slab : Slab Owned) (ids : SectionIds) (section : List ℕ) (key : ℕ) (route : Route)
-    → AreIndexed slab ids → route_of section ≡ route → id_of ids section ≡ Some key
+    → AreIndexed slab ids → route_of section ≡ route → Some key ≡ id_of ids section
     → IsMeant slab key route
 IsMeant-found slab ids section key route is means found =
-    let some = some_of (λ (o : Owned). canon o.route) (get slab key) section (is.living section key found) in
+    let some = some_of (λ (o : Owned). canon o.route) (get slab key) section (is.living section key (sym found)) in
     record {
       shared = some.0;
       there = some.1;
