@@ -6,7 +6,7 @@ use Rattle.std.specs.Ordering.{nat_cmp}
 use Rattle.std.proofs.lemmas.Bool.Decides.{eqb_tells}
 use Rattle.std.proofs.lemmas.Cmp.{nat_cmp_total}
 use Rattle.slab.specs.Slab.{Slab, get, entries}
-use Rattle.xb_words.specs.Table.{value_at, with_value, without}
+use Rattle.xb_words.specs.Table.{with_value, without}
 use Rattle.xb_words.proofs.TableLemmas.{value_at-with_value}
 use Rattle.bgp_attr.specs.Routes.{Route, canon}
 use Rattle.attr_intern.specs.Ids.{SectionIds, id_of}

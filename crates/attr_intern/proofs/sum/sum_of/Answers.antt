@@ -1,5 +1,5 @@
-use Rattle.std.proofs.Common.{◌≡◌, suc, ◌+◌, ◌*◌, ◌/◌, ◌%◌, length, refl, sym, ap, ◌∙◌, arith}
-use Rattle.attr_intern.specs.Sums.{eight_at, mixed, octets_sum, sum_of, words_sum}
+use Rattle.std.proofs.Common.{◌≡◌, suc, ◌+◌, ◌*◌, ◌/◌, ◌%◌, length, refl, ap, ◌∙◌, arith}
+use Rattle.attr_intern.specs.Sums.{mixed, octets_sum, sum_of, words_sum}
 use Rattle.attr_intern.specs.declared.sum.TheConstants.{WORD}
 use Rattle.attr_intern.proofs.sum.sum_of.Goals as goal
 

@@ -1,4 +1,4 @@
-use Rattle.std.proofs.Common.{◌≡◌, ◌≢◌, Some, sym, ap, ◌∙◌}
+use Rattle.std.proofs.Common.{Some, sym, ap, ◌∙◌}
 use Rattle.std.specs.Ordering.{nat_cmp}
 use Rattle.xb_words.specs.Table.{value_at}
 use Rattle.attr_intern.proofs.IdsLemmas.{first_id-other, first_id-same}

@@ -1,4 +1,4 @@
-use Rattle.std.proofs.Common.{◌≡◌, Vec, Global, ℕ, Some, None, sym, ap, ◌∙◌, subst}
+use Rattle.std.proofs.Common.{rules, ◌≡◌, Vec, Global, ℕ, Some, sym, ap, ◌∙◌, subst}
 use Rattle.std.specs.Ordering.{nat_cmp}
 use Rattle.std.proofs.lemmas.Cmp.{nat_list_cmp_total}
 use Rattle.std.proofs.lemmas.Map.Lookups.{exact_unsigned}
@@ -7,7 +7,6 @@ use Rattle.xb_words.proofs.TableLemmas.{IsRising-with_value}
 use Rattle.attr_intern.specs.Ids.{entries_by, section_cmp}
 use Rattle.attr_intern.proofs.IdsLemmas.{ChangesId-first, ChangesId-rest, none_found}
 use Rattle.attr_intern.proofs.LookupLemmas.{entries_by-insert_entry, is_eq-false}
-use Rattle.attr_intern.proofs.ids.Ids.insert.Goals.{in-Some-1, in-None-1}
 use Rattle.attr_intern.proofs.ids.Ids.insert.Goals as goal
 
 pub invariant_of-self-then-contains_key : goal.invariant_of-self-then-contains_key
@@ -31,16 +30,8 @@ returns-in_ok-insert-clause-ok c =
 
 pub returns-in_ok-insert-2-clause-ok : goal.returns-in_ok-insert-2-clause-ok
 returns-in_ok-insert-2-clause-ok c =
-    let firsts : c.match-branch-4.self.firsts ≡ c.insert-else-contains_key.new.self.entries =
-    elim c.match-branch-4.branch [
-      | in-Some-1 w ↦ ap (λ ids. ids.firsts) w.self-is
-      | in-None-1 w ↦ ap (λ ids. ids.firsts) w.self-is
-    ] in
-    let rest : c.match-branch-4.self.rest ≡ c.args.self.now.rest =
-    elim c.match-branch-4.branch [
-      | in-Some-1 w ↦ ap (λ ids. ids.rest) w.self-is ∙ ap (λ ids. ids.rest) c.self.view_is
-      | in-None-1 w ↦ ap (λ ids. ids.rest) w.self-is ∙ ap (λ ids. ids.rest) c.self.view_is
-    ] in
+    let firsts : c.match-branch-4.self.firsts ≡ c.insert-else-contains_key.new.self.entries = search rules in
+    let rest : c.match-branch-4.self.rest ≡ c.args.self.now.rest = search rules in
     let updates = c.in_ok-insert-2.ensures.updates in
     ChangesId-first c.args.self.now c.match-branch-4.self c.args.section.now c.args.sum c.args.id c.requires.sum rest
     (ap (λ ids. value_at nat_cmp ids.firsts c.args.sum) (sym c.self.view_is)
