@@ -1,23 +1,16 @@
 -- A pool's records beside their ids by section: what each change keeps, and what callers know of the records.
-use Rattle.std.proofs.Common.{◌≡◌, ◌≢◌, ◌⊎◌, ℕ, ◌≤◌, List, [], get_or, Option, Some, None, option_map, cond, inl, inr}
+use Rattle.std.proofs.Common.{◌≡◌, ◌≢◌, ℕ, ◌≤◌, List, [], get_or, Option, Some, None, option_map, inl, inr}
 use Rattle.std.proofs.Common.{refl, sym, ap, ◌∙◌, subst, arith, lit≤}
-use Rattle.std.specs.Ordering.{is_eq}
-use Rattle.std.specs.declared.cmp.Ordering.TheVariants.{Equal}
-use Rattle.std.specs.List.Sorted.{IsStrictlySortedBy}
-use Rattle.std.specs.Map.{keys_of}
 use Rattle.std.proofs.lemmas.Bool.{cases_eq}
-use Rattle.std.proofs.lemmas.Cmp.{nat_list_cmp_total, tied_itself}
-use Rattle.std.proofs.lemmas.Map.Lookups.{exact_bytes}
 use Rattle.slab.specs.Slab.{Slab, get, entries}
-use Rattle.xb_words.specs.Table.{value_at, with_value, without}
-use Rattle.xb_words.proofs.TableLemmas.{IsRising-with_value, IsRising-without, value_at-with_value}
 use Rattle.bgp_attr.specs.Routes.{Route, canon, route_of, IsRoute}
 use Rattle.xbgp_view.specs.Sections.{IsCanonical}
 use Rattle.xbgp_view.proofs.ReadingLemmas.{route_of-canon}
-use Rattle.attr_intern.specs.Kept.{section_cmp, SectionIds, AreIndexed}
+use Rattle.attr_intern.specs.Ids.{SectionIds, ChangesId, id_of}
+use Rattle.attr_intern.specs.Kept.{AreIndexed}
 use Rattle.attr_intern.specs.Pools.{Owned, most_owners, one_more, record_at, route_at, ArePooled}
 use Rattle.attr_intern.proofs.EntriesLemmas.{IsRising-entries, value_at-entries}
-use Rattle.attr_intern.proofs.LookupLemmas.{by_ordering, is_eq-false, value_at-with_value-other, value_at-without}
+use Rattle.attr_intern.proofs.IdsLemmas.{sections_differ}
 
 -- each key but one keeps what it had
 abbrev pub KeepsOthers : Slab Owned → Slab Owned → ℕ → Type 0
@@ -49,28 +42,17 @@ after_removal P old new key gone others was id o found = elim (cases_eq id key) 
   | inr apart ↦ was id o apart (sym (others id apart) ∙ found)
 ]
 
--- sections that tie are one
-tells : (a b : List ℕ) → section_cmp a b ≡ Equal → a ≡ b
-tells a b tie = exact_bytes a b tie
-
-ties : (a b : List ℕ) → (a ≡ b) ⊎ (section_cmp a b ≢ Equal)
-ties a b = by_ordering (section_cmp a b)
-    (λ l. inr (λ tie. absurd (cc (l, tie))))
-    (λ t. inl (tells a b t))
-    (λ g. inr (λ tie. absurd (cc (g, tie))))
-
 -- another number of owners
 pub AreIndexed-counted : (old new : Slab Owned) (ids : SectionIds) (key n : ℕ) (o : Owned) → get old key ≡ Some o
     → get new key ≡ Some (record o { owners = n }) → KeepsOthers old new key → 1 ≤ n → n ≤ most_owners
     → AreIndexed old ids → AreIndexed new ids
 AreIndexed-counted old new ids key n o was here others some few is =
     let w : Owned = record o { owners = n } in record {
-      rising = is.rising;
       routes = after_write (λ _ o. IsRoute o.route) old new key w here others (is.routes key o was) is.routes;
       owned = after_write (λ _ o. 1 ≤ o.owners) old new key w here others some is.owned;
       counted = after_write (λ _ o. o.owners ≤ most_owners) old new key w here others few is.counted;
       listed =
-          after_write (λ id o. value_at section_cmp ids (canon o.route) ≡ Some id) old new key w here others
+          after_write (λ id o. id_of ids (canon o.route) ≡ Some id) old new key w here others
           (is.listed key o was) is.listed;
       living = λ section id found. meant id ∙ is.living section id found;
     }
@@ -95,54 +77,40 @@ AreIndexed-shared old new ids key o was here others is =
 -- a new record
 pub AreIndexed-added : (old new : Slab Owned) (ids added : SectionIds) (key : ℕ) (section : List ℕ) (route : Route)
     → get old key ≡ None → get new key ≡ Some (record { route = route; owners = 1 }) → KeepsOthers old new key
-    → IsCanonical section → route_of section ≡ route → None ≡ value_at section_cmp ids section
-    → added ≡ with_value section_cmp ids section key → AreIndexed old ids → AreIndexed new added
+    → IsCanonical section → route_of section ≡ route → None ≡ id_of ids section
+    → ChangesId ids added section (Some key) → AreIndexed old ids → AreIndexed new added
 AreIndexed-added old new ids added key section route vacant here others canonical means free more is =
     let w : Owned = record { route = route; owners = 1 } in
     let whole : IsRoute route = subst IsRoute means canonical.route in
     let spelled : canon route ≡ section = ap canon (sym means) ∙ canonical.octets in
-    let is_added : value_at section_cmp added section ≡ Some key =
-    ap (λ m. value_at section_cmp m section) more
-    ∙ value_at-with_value section_cmp nat_list_cmp_total ids section key in
     record {
-      rising = subst (λ m. IsStrictlySortedBy section_cmp (keys_of m)) (sym more)
-          (IsRising-with_value section_cmp nat_list_cmp_total ids section key is.rising);
       routes = after_write (λ _ o. IsRoute o.route) old new key w here others whole is.routes;
       owned = after_write (λ _ o. 1 ≤ o.owners) old new key w here others (omega arith) is.owned;
       counted = after_write (λ _ o. o.owners ≤ most_owners) old new key w here others (lit≤ tt) is.counted;
       listed =
-          after_write (λ id o. value_at section_cmp added (canon o.route) ≡ Some id) old new key w here others
-          (ap (value_at section_cmp added) spelled ∙ is_added)
+          after_write (λ id o. id_of added (canon o.route) ≡ Some id) old new key w here others
+          (ap (id_of added) spelled ∙ more.changed)
           (λ id o found. still id o (is.listed id o found));
-      living = λ s id found. lives s id found (spelled, is_added);
+      living = λ s id found. lives s id found spelled;
     }
   where
-    other_section : (s : List ℕ) → section_cmp s section ≢ Equal
-        → value_at section_cmp added s ≡ value_at section_cmp ids s
-    other_section s apart =
-        ap (λ m. value_at section_cmp m s) more
-        ∙ value_at-with_value-other section_cmp nat_list_cmp_total ids section key s apart
-
-    still : (id : ℕ) (o : Owned) → value_at section_cmp ids (canon o.route) ≡ Some id
-        → value_at section_cmp added (canon o.route) ≡ Some id
+    still : (id : ℕ) (o : Owned) → id_of ids (canon o.route) ≡ Some id → id_of added (canon o.route) ≡ Some id
     still id o listed =
-        other_section (canon o.route)
-        (λ tie.
-        let taken : value_at section_cmp ids section ≡ Some id =
-        ap (value_at section_cmp ids) (sym (tells (canon o.route) section tie)) ∙ listed in
+        more.others (canon o.route)
+        (λ same.
+        let taken : id_of ids section ≡ Some id = ap (id_of ids) (sym same) ∙ listed in
         absurd (cc (free, taken)))
         ∙ listed
 
-    lives : (s : List ℕ) (id : ℕ) → value_at section_cmp added s ≡ Some id
-        → (canon route ≡ section) × (value_at section_cmp added section ≡ Some key) → section_at new id ≡ Some s
-    lives s id found facts = elim (ties s section) [
+    lives : (s : List ℕ) (id : ℕ) → id_of added s ≡ Some id → canon route ≡ section → section_at new id ≡ Some s
+    lives s id found spelled = elim (sections_differ s section) [
       | inl same ↦
-          let one : Some id ≡ Some key = sym found ∙ ap (value_at section_cmp added) same ∙ facts.1 in
+          let one : Some id ≡ Some key = sym found ∙ ap (id_of added) same ∙ more.changed in
           let at : id ≡ key = cc one in
           ap (section_at new) at ∙ ap (option_map (λ o. canon o.route)) here
-          ∙ ap (λ s. Some s) (facts.0 ∙ sym same)
+          ∙ ap (λ s. Some s) (spelled ∙ sym same)
       | inr apart ↦
-          let old_one = is.living s id (sym (other_section s apart) ∙ found) in
+          let old_one = is.living s id (sym (more.others s apart) ∙ found) in
           let at : id ≢ key = λ same.
           let none : section_at old id ≡ None =
           ap (section_at old) same ∙ ap (option_map (λ o. canon o.route)) vacant in
@@ -152,17 +120,15 @@ AreIndexed-added old new ids added key section route vacant here others canonica
 
 -- a record is gone
 pub AreIndexed-removed : (old new : Slab Owned) (ids left : SectionIds) (key : ℕ) (o : Owned) → get old key ≡ Some o
-    → get new key ≡ None → KeepsOthers old new key → left ≡ without section_cmp ids (canon o.route)
+    → get new key ≡ None → KeepsOthers old new key → ChangesId ids left (canon o.route) None
     → AreIndexed old ids → AreIndexed new left
 AreIndexed-removed old new ids left key o was gone others fewer is = record {
-  rising = subst (λ m. IsStrictlySortedBy section_cmp (keys_of m)) (sym fewer)
-      (IsRising-without section_cmp nat_list_cmp_total ids section is.rising);
   routes = after_removal (λ _ o. IsRoute o.route) old new key gone others (λ id o _ found. is.routes id o found);
   owned = after_removal (λ _ o. 1 ≤ o.owners) old new key gone others (λ id o _ found. is.owned id o found);
   counted =
       after_removal (λ _ o. o.owners ≤ most_owners) old new key gone others (λ id o _ found. is.counted id o found);
   listed =
-      after_removal (λ id o. value_at section_cmp left (canon o.route) ≡ Some id) old new key gone others
+      after_removal (λ id o. id_of left (canon o.route) ≡ Some id) old new key gone others
       (λ id o apart found. still id o apart (is.listed id o found));
   living = lives;
 }
@@ -170,47 +136,27 @@ AreIndexed-removed old new ids left key o was gone others fewer is = record {
     section : List ℕ
     section = canon o.route
 
-    there : value_at section_cmp ids section ≡ Some key
-    there = is.listed key o was
-
-    found_left : (s : List ℕ)
-        → value_at section_cmp left s ≡ cond (is_eq (section_cmp section s)) None (value_at section_cmp ids s)
-    found_left s =
-        ap (λ m. value_at section_cmp m s) fewer
-        ∙ value_at-without section_cmp nat_list_cmp_total ids section s is.rising
-
-    left_other : (s : List ℕ) → section_cmp section s ≢ Equal
-        → value_at section_cmp left s ≡ value_at section_cmp ids s
-    left_other s apart =
-        found_left s
-        ∙ ap (λ b. cond b None (value_at section_cmp ids s)) (is_eq-false (section_cmp section s) apart)
-
-    still : (id : ℕ) (w : Owned) → id ≢ key → value_at section_cmp ids (canon w.route) ≡ Some id
-        → value_at section_cmp left (canon w.route) ≡ Some id
+    still : (id : ℕ) (w : Owned) → id ≢ key → id_of ids (canon w.route) ≡ Some id → id_of left (canon w.route) ≡ Some id
     still id w apart listed =
-        left_other (canon w.route)
-        (λ tie.
-        let same = tells section (canon w.route) tie in
-        let one : Some key ≡ Some id = sym there ∙ ap (value_at section_cmp ids) same ∙ listed in
+        fewer.others (canon w.route)
+        (λ same.
+        let one : Some key ≡ Some id = sym (is.listed key o was) ∙ ap (id_of ids) (sym same) ∙ listed in
         let at : key ≡ id = cc one in
         absurd (apart (sym at)))
         ∙ listed
 
-    lives : (s : List ℕ) (id : ℕ) → value_at section_cmp left s ≡ Some id → section_at new id ≡ Some s
-    lives s id found = elim (ties section s) [
+    lives : (s : List ℕ) (id : ℕ) → id_of left s ≡ Some id → section_at new id ≡ Some s
+    lives s id found = elim (sections_differ s section) [
       | inl same ↦
-          let tie : section_cmp section s ≡ Equal =
-          ap (section_cmp section) (sym same) ∙ tied_itself nat_list_cmp_total section in
-          let none : value_at section_cmp left s ≡ None =
-          found_left s ∙ ap (λ r. cond (is_eq r) None (value_at section_cmp ids s)) tie in
+          let none : id_of left s ≡ None = ap (id_of left) same ∙ fewer.changed in
           absurd (cc (none, found))
       | inr apart ↦
-          let old_one = is.living s id (sym (left_other s apart) ∙ found) in
+          let old_one = is.living s id (sym (fewer.others s apart) ∙ found) in
           let at : id ≢ key = λ same_id.
           let one : Some s ≡ Some section =
           sym old_one ∙ ap (section_at old) same_id ∙ ap (option_map (λ o. canon o.route)) was in
           let same : s ≡ section = cc one in
-          apart (ap (section_cmp section) same ∙ tied_itself nat_list_cmp_total section) in
+          apart same in
           ap (option_map (λ o. canon o.route)) (others id at) ∙ old_one
     ]
 
@@ -218,7 +164,6 @@ AreIndexed-removed old new ids left key o was gone others fewer is = record {
 pub AreIndexed-same : (old new : Slab Owned) (ids : SectionIds) → ((key : ℕ) → get new key ≡ get old key)
     → AreIndexed old ids → AreIndexed new ids
 AreIndexed-same old new ids same is = record {
-  rising = is.rising;
   routes = λ id o found. is.routes id o (sym (same id) ∙ found);
   owned = λ id o found. is.owned id o (sym (same id) ∙ found);
   counted = λ id o found. is.counted id o (sym (same id) ∙ found);
@@ -227,15 +172,14 @@ AreIndexed-same old new ids same is = record {
 }
 
 -- without records
-pub AreIndexed-empty : (slab : Slab Owned) → slab.slots ≡ [] → AreIndexed slab []
-unfolding IsStrictlySortedBy
-AreIndexed-empty slab empty = record {
-  rising = tt;
+pub AreIndexed-empty : (slab : Slab Owned) (ids : SectionIds) → slab.slots ≡ []
+    → ((section : List ℕ) → id_of ids section ≡ None) → AreIndexed slab ids
+AreIndexed-empty slab ids empty unlisted = record {
   routes = λ id o found. absurd (cc (none id, found));
   owned = λ id o found. absurd (cc (none id, found));
   counted = λ id o found. absurd (cc (none id, found));
   listed = λ id o found. absurd (cc (none id, found));
-  living = λ s id found. absurd (cc found);
+  living = λ s id found. absurd (cc (unlisted s, found));
 }
   where
     none : (id : ℕ) → get slab id ≡ None
@@ -253,7 +197,7 @@ pub record IsMeant (slab : Slab Owned) (key : ℕ) (route : Route) : Type 0 wher
   pub means : shared.route ≡ route
 
 pub IsMeant-found : (slab : Slab Owned) (ids : SectionIds) (section : List ℕ) (key : ℕ) (route : Route)
-    → AreIndexed slab ids → route_of section ≡ route → Some key ≡ value_at section_cmp ids section
+    → AreIndexed slab ids → route_of section ≡ route → Some key ≡ id_of ids section
     → IsMeant slab key route
 IsMeant-found slab ids section key route is means found =
     let some = some_of (λ (o : Owned). canon o.route) (get slab key) section (is.living section key (sym found)) in
@@ -265,10 +209,10 @@ IsMeant-found slab ids section key route is means found =
 
 -- a route that lives is listed by its section
 pub listed_by_route : (slab : Slab Owned) (ids : SectionIds) (id : ℕ) (route : Route) → AreIndexed slab ids
-    → route_at (entries slab) id ≡ Some route → value_at section_cmp ids (canon route) ≡ Some id
+    → route_at (entries slab) id ≡ Some route → id_of ids (canon route) ≡ Some id
 listed_by_route slab ids id route is lives =
     let some = some_of (λ (o : Owned). o.route) (record_at (entries slab) id) route lives in
-    ap (λ r. value_at section_cmp ids (canon r)) (sym some.2)
+    ap (λ r. id_of ids (canon r)) (sym some.2)
     ∙ is.listed id some.0 (sym (value_at-entries slab id) ∙ some.1)
 
 -- what callers know of the records

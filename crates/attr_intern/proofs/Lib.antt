@@ -1,4 +1,5 @@
 pub mod LookupLemmas
+pub mod IdsLemmas
 pub mod EntriesLemmas
 pub mod FieldsLemmas
 pub mod KeptLemmas

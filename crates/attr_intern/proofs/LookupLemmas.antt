@@ -15,7 +15,7 @@ use Rattle.std.proofs.lemmas.Map.Keys.{IsDistinct-from_sorted}
 use Rattle.xb_words.specs.Table.{value_at, with_value, without, IsRising}
 use Rattle.xb_words.proofs.TableSplitLemmas.{IsRising-head, IsRising-tail, Each-trans, Each-congr, value_at-above}
 use Rattle.xb_words.proofs.TableSplitLemmas.{less_from_greater}
-use Rattle.attr_intern.specs.Kept.{entries_by}
+use Rattle.attr_intern.specs.Ids.{entries_by}
 
 pub by_ordering : {P : Type 0} (r : Ordering) → (r ≡ Less → P) → (r ≡ Equal → P) → (r ≡ Greater → P) → P
 by_ordering Less l e g = l refl

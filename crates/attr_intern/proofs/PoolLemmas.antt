@@ -6,10 +6,11 @@ use Rattle.std.specs.Ordering.{nat_cmp}
 use Rattle.std.proofs.lemmas.Bool.Decides.{eqb_tells}
 use Rattle.std.proofs.lemmas.Cmp.{nat_cmp_total}
 use Rattle.slab.specs.Slab.{Slab, get, entries}
-use Rattle.xb_words.specs.Table.{value_at, with_value, without}
+use Rattle.xb_words.specs.Table.{with_value, without}
 use Rattle.xb_words.proofs.TableLemmas.{value_at-with_value}
 use Rattle.bgp_attr.specs.Routes.{Route, canon}
-use Rattle.attr_intern.specs.Kept.{section_cmp, SectionIds, AreIndexed}
+use Rattle.attr_intern.specs.Ids.{SectionIds, id_of}
+use Rattle.attr_intern.specs.Kept.{AreIndexed}
 use Rattle.attr_intern.specs.Pools.{Owned, Records, interned, most_owners, one_fewer, one_more, owners_at, owners_of}
 use Rattle.attr_intern.specs.Pools.{record_at, released, route_at, with_record}
 use Rattle.attr_intern.proofs.EntriesLemmas.{entries-changed, entries-removed, value_at-entries}
@@ -83,7 +84,7 @@ module _ {s : Slab Owned} {records : Records} {key id : ℕ} (has : HasRecords s
 
   -- a route that lives under another id has its section there
   pub listed_elsewhere : (ids : SectionIds) (other : ℕ) (route : Route) → AreIndexed s ids
-      → route_at records other ≡ Some route → value_at section_cmp ids (canon route) ≡ Some other
+      → route_at records other ≡ Some route → id_of ids (canon route) ≡ Some other
   listed_elsewhere ids other route is lives =
       listed_by_route s ids other route is (ap (λ r. route_at r other) has.all ∙ lives)
 

@@ -1,10 +1,10 @@
 use Rattle.std.proofs.Common.{◌≡◌, sym, ap, ◌∙◌, subst, Some, None, is_some}
 use Rattle.std.specs.Option.{IfSome}
 use Rattle.std.proofs.lemmas.Result.{err_from_is_err_and}
-use Rattle.xb_words.specs.Table.{value_at}
 use Rattle.bgp_attr.specs.Routes.{canon, route_of}
 use Rattle.xbgp_view.specs.Sections.{IsCanonical}
-use Rattle.attr_intern.specs.Kept.{section_cmp, AreIndexed}
+use Rattle.attr_intern.specs.Ids.{id_of}
+use Rattle.attr_intern.specs.Kept.{AreIndexed}
 use Rattle.attr_intern.proofs.EntriesLemmas.{entries_from_get}
 use Rattle.attr_intern.proofs.KeptLemmas.{AreIndexed-added, AreIndexed-same, AreIndexed-shared, ArePooled-entries}
 use Rattle.attr_intern.proofs.KeptLemmas.{IsMeant-found}
@@ -59,7 +59,7 @@ returns-in-Some-clause-shared g c = λ other lives.
     let has : HasRecords c.self.inside.shared c.args.self.now c.in-Some.key c.new.result =
     record { all = c.self.view_is; under = sym c.new.ensures } in
     let one : Some c.in-Some.key ≡ Some other =
-    c.in-Some.ensures ∙ ap (value_at section_cmp c.self.inside.ids) (sym section)
+    c.in-Some.ensures ∙ ap (id_of c.self.inside.ids) (sym section)
     ∙ listed_elsewhere has c.self.inside.ids other r c.self.invariant.0 lives in
     c.new.ensures ∙ cc one
 
@@ -119,7 +119,7 @@ returns-clause-shared g c = λ other lives.
     let has : HasRecords c.self.inside.shared c.args.self.now c.in_ok-key.key c.new-2.result =
     record { all = c.self.view_is; under = sym c.new-2.ensures } in
     let one : None ≡ Some other =
-    c.in_default.ensures ∙ ap (value_at section_cmp c.self.inside.ids) (sym section)
+    c.in_default.ensures ∙ ap (id_of c.self.inside.ids) (sym section)
     ∙ listed_elsewhere has c.self.inside.ids other r c.self.invariant.0 lives in
     absurd (cc one)
 
