@@ -20,7 +20,6 @@
 #![tactic(auto)]
 
 mod block;
-mod change;
 mod node;
 mod page;
 mod tree;
