@@ -1,5 +1,5 @@
 -- Parts of blocks of addresses.
-use Rattle.std.proofs.Common.{◌≡◌, ◌<◌, ◌≤◌, ◌+◌, ◌-◌, ◌^◌, ℕ, inl, inr, zero, suc, refl, arith}
+use Rattle.std.proofs.Common.{◌≡◌, ◌<◌, ◌≤◌, ◌+◌, ◌-◌, ◌^◌, ℕ, inl, inr, zero, suc, refl, subst, arith}
 use Rattle.std.proofs.Math.Nat.{two-pow-succ}
 use Rattle.std.proofs.lemmas.Nat.{pow_pos}
 use Rattle.xb_values.specs.Prefixes.{Prefix}
@@ -138,6 +138,4 @@ IsPart-in_high first (suc b) from size k part key apart upper =
       ]
     ])
 
-pub ruleset parts = (IsPart-self, IsPart-low, IsPart-high, IsIn-low, IsIn-high)
-
-pub ruleset halves = (part_some, IsPart-in_low, IsPart-in_high)
+pub ruleset parts = (part_some, IsPart-self, IsPart-low, IsPart-high, IsPart-in_low, IsPart-in_high, IsIn-low, IsIn-high)

@@ -286,6 +286,6 @@ pub ruleset half = (IsTree-low, IsTree-high)
 
 pub ruleset look_up = (find_at, half, nodes_some)
 
-pub ruleset write = (find_at, with_value-low, with_value-high, IsIn-low, IsIn-high)
+pub ruleset write = (find_at, with_value-low, with_value-high, IsIn-low, IsIn-high, part_bits)
 
 pub ruleset walk = (first_of_halves, entry_after-low, entry_after-high, half)

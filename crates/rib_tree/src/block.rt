@@ -80,6 +80,7 @@ impl Block {
     }
 
     /// The smallest part that has another part, and a prefix outside that one.
+    #[tactic(auto, using(crate::proofs::BlockLemmas::parts))]
     pub fn common(self, inner: Block, key: Prefix) -> Block
         requires part { IsPart self.first self.bits inner.first inner.bits }
         requires key { IsIn self.first self.bits key }

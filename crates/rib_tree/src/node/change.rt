@@ -14,6 +14,7 @@ use std::alloc::Global;
 use xb_values::{Prefix, Steps};
 
 // The smallest part of a block that has the entries of a page and a prefix. None if it has one address alone.
+#[tactic(auto, using(crate::proofs::BlockLemmas::parts))]
 fn common<V>(page: &Page<V>, block: Block, key: Prefix) -> Option<Block>
     requires rising { IsRising prefix_cmp page.now.items }
     requires within { AllIn block.first block.bits page.now.items }

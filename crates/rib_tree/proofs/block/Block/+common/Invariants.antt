@@ -1,4 +1,4 @@
 use Rattle.rib_tree.proofs.block.Block.+common.Given as goal
 
 abbrev pub decreases-common : goal.decreases-common
-decreases-common g l = l.self.bits
+decreases-common l = l.self.bits

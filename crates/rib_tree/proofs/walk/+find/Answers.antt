@@ -1,0 +1,24 @@
+use Rattle.std.proofs.Common.{◌≡◌, sym, ◌∙◌, arith}
+use Rattle.std.proofs.lemmas.Grind.{common_steps}
+use Rattle.rib_tree.specs.declared.node.Node.TheVariants.{Fork}
+use Rattle.rib_tree.specs.Trees.{IsTree}
+use Rattle.rib_tree.proofs.TreesLemmas.{IsTree-low, IsTree-high, nodes_some}
+use Rattle.rib_tree.proofs.walk.+find.Goals as goal
+
+pub find-requires : goal.find-requires
+find-requires g t c κs within =
+    let h = c.in-Fork.halves.value in
+    let is : c.args.tree.now.node ≡ Fork c.in-Fork.halves = sym c.read.ensures.node ∙ c.in-Fork.is in
+    let tree : IsTree 0 32 (Fork c.in-Fork.halves) = rw is at c.requires.tree in
+    let half : IsTree 0 32 h.low.node =
+        IsTree-low 0 32 h.block.first h.block.bits h.low.node tree.0 tree.1 tree.2 in
+    grind (arith, common_steps, nodes_some)
+
+pub find-requires-else-addr-middle : goal.find-requires-else-addr-middle
+find-requires-else-addr-middle g t c κs within =
+    let h = c.in-Fork.halves.value in
+    let is : c.args.tree.now.node ≡ Fork c.in-Fork.halves = sym c.read.ensures.node ∙ c.in-Fork.is in
+    let tree : IsTree 0 32 (Fork c.in-Fork.halves) = rw is at c.requires.tree in
+    let half : IsTree 0 32 h.high.node =
+        IsTree-high 0 32 h.block.first h.block.bits h.high.node tree.0 tree.1 tree.3 in
+    grind (arith, common_steps, nodes_some)
