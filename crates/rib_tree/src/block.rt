@@ -94,12 +94,16 @@ impl Block {
             → IsPart (result.first + 2 ^ (result.bits - 1)) (result.bits - 1) inner.first inner.bits }
     {
         let middle = self.middle();
-        if key.addr() < middle && inner.first < middle {
-            self.low().common(inner, key)
-        } else if key.addr() >= middle && inner.first >= middle {
-            self.high().common(inner, key)
-        } else {
+        if key.addr() < middle {
+            if inner.first < middle {
+                self.low().common(inner, key)
+            } else {
+                self
+            }
+        } else if inner.first < middle {
             self
+        } else {
+            self.high().common(inner, key)
         }
     }
 }

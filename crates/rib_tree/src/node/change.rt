@@ -28,9 +28,13 @@ fn common<V>(page: &Page<V>, block: Block, key: Prefix) -> Option<Block>
         return None;
     }
     let below = how_many_below(page, block.middle());
-    if key.addr() < block.middle() && below == page.len() {
-        common(page, block.low(), key)
-    } else if key.addr() >= block.middle() && below == 0 {
+    if key.addr() < block.middle() {
+        if below == page.len() {
+            common(page, block.low(), key)
+        } else {
+            Some(block)
+        }
+    } else if below == 0 {
         common(page, block.high(), key)
     } else {
         Some(block)
