@@ -18,7 +18,7 @@ find-requires g t c κs within =
     let path : nodes_to c.args.key c.args.tree.now.node ≡ 1 + nodes_to c.args.key h.low.node =
         rw (is, lt-ltb c.args.key.addr (h.block.first + 2 ^ (h.block.bits - 1)) side) refl in
     rw c.deref-halves.ensures
-    (first_of (omega arith, search rules, grind (arith, common_steps)), (within, (half, omega arith)))
+    (first_of (omega arith, search rules, grind (arith, common_steps)), (within.0, (within.1, (half, omega arith))))
 
 pub find-requires-else-addr-middle : goal.find-requires-else-addr-middle
 find-requires-else-addr-middle g t c κs within =
@@ -32,4 +32,4 @@ find-requires-else-addr-middle g t c κs within =
     let path : nodes_to c.args.key c.args.tree.now.node ≡ 1 + nodes_to c.args.key h.high.node =
         rw (is, le-ltb c.args.key.addr (h.block.first + 2 ^ (h.block.bits - 1)) side) refl in
     rw c.deref-halves.ensures
-    (first_of (omega arith, search rules, grind (arith, common_steps)), (within, (half, omega arith)))
+    (first_of (omega arith, search rules, grind (arith, common_steps)), (within.0, (within.1, (half, omega arith))))

@@ -1,4 +1,4 @@
-use Rattle.std.proofs.Common.{◌<◌, ◌≤◌, ◌+◌, ◌-◌, ◌^◌, rules, arith}
+use Rattle.std.proofs.Common.{◌<◌, ◌≤◌, ◌+◌, ◌-◌, ◌^◌, refl, rules, arith}
 use Rattle.std.proofs.lemmas.Grind.{common_steps}
 use Rattle.rib_tree.specs.declared.node.Node.TheVariants.{Fork}
 use Rattle.rib_tree.specs.Blocks.{IsIn}
@@ -16,7 +16,8 @@ insert-requires-else-addr-middle g t c κs within =
     let some : 0 < h.block.bits = tree.0 in
     let side : h.block.first + 2 ^ (h.block.bits - 1) ≤ c.args.key.addr =
         omega (arith, c.addr.ensures.value, rw c.deref_mut-halves.ensures.value at c.middle.ensures) in
-    let key : IsIn h.block.first h.block.bits c.args.key = rw c.in-Fork.is at c.if-not-make_room.ensures.room in
+    let room = rw c.in-Fork.is at c.if-not-make_room.ensures.room in
+    let key : IsIn h.block.first h.block.bits c.args.key = room refl in
     rw (c.high.ensures.first, c.high.ensures.bits, c.deref_mut-halves.ensures.value)
     (first_of (omega arith, search rules, grind (arith, common_steps)), (within, (tree.3, IsIn-high h.block.first h.block.bits c.args.key some key side)))
 
