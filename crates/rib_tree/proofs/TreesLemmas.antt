@@ -1,5 +1,5 @@
 -- What the calls on the tree of a block of addresses are on the trees of its halves.
-use Rattle.std.proofs.Common.{◌≡◌, ◌<◌, ◌≤◌, ◌+◌, ◌-◌, ◌^◌, ℕ, inl, inr, zero, suc, List, [], ◌∷◌, ◌++◌, Some, None, refl}
+use Rattle.std.proofs.Common.{◌≡◌, ◌<◌, ◌≤◌, ◌+◌, ◌-◌, ◌^◌, ℕ, inl, inr, List, [], ◌∷◌, ◌++◌, Some, None, refl}
 use Rattle.std.specs.Prelude.{Result, Ok, Err, OnOk, OnErr, nat_lt}
 use Rattle.std.proofs.lemmas.Bool.{cases_Bool, cases_lt}
 use Rattle.xb_words.proofs.ListLemmas.{AllByRecursion-left, AllByRecursion-right}
@@ -274,8 +274,12 @@ module _ {V : Type 0} where
       let fewer = part_bits first bits block.first block.bits tree.1 in
       elim (cases_Bool (nat_lt k.addr (block.first + 2 ^ (block.bits - 1)))) [
         | inl lower ↦ rw lower (omega (arith, fewer, tree.0, nodes_most block.first (block.bits - 1) k low tree.2))
-        | inr upper ↦ rw upper (omega (arith, fewer, tree.0,
-            nodes_most (block.first + 2 ^ (block.bits - 1)) (block.bits - 1) k high tree.3))
+        | inr upper ↦ rw upper (omega (
+          arith,
+          fewer,
+          tree.0,
+          nodes_most (block.first + 2 ^ (block.bits - 1)) (block.bits - 1) k high tree.3,
+        ))
       ]
 
 pub ruleset nodes = (nodes_some, nodes_most)

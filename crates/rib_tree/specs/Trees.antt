@@ -1,5 +1,5 @@
 -- What contracts see of the nodes of a tree, and how entries are spread over them (for the private functions).
-use Rattle.std.specs.Prelude.{ℕ, ◌+◌, ◌-◌, ◌^◌, ◌<◌, ◌≤◌, List, ◌++◌, Bool, true, false, nat_lt, if◌then◌else◌}
+use Rattle.std.specs.Prelude.{ℕ, ◌+◌, ◌-◌, ◌^◌, ◌<◌, List, ◌++◌, nat_lt, if◌then◌else◌}
 use Rattle.std.specs.List.{AllByRecursion}
 use Rattle.xb_words.specs.Table.{IsRising}
 use Rattle.xb_values.specs.Prefixes.{Prefix, prefix_cmp}
@@ -10,11 +10,6 @@ use Rattle.rib_tree.specs.declared.node.Node.{Node, Leaf, Fork'}
 abbrev pub entries_of : {V : Type 0} → Node V → List (Prefix × V)
 entries_of (Leaf page) = page.items
 entries_of (Fork' p block low high) = entries_of low ++ entries_of high
-
--- whether a node is a leaf
-abbrev pub is_leaf : {V : Type 0} → Node V → Bool
-is_leaf (Leaf page) = true
-is_leaf (Fork' p block low high) = false
 
 -- all entries are in a block of addresses
 abbrev pub AllIn : {V : Type 0} → ℕ → ℕ → List (Prefix × V) → Type 0

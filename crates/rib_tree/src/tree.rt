@@ -77,7 +77,13 @@ impl<V: Drop> Tree<V> {
         ensures absent { OnErr result (value_at prefix_cmp self.old prefix ≡ None) }
         ensures rising { IsRising prefix_cmp self.new }
     {
-        insert(self.alloc, &mut self.root, Block::around(prefix), prefix, value)
+        insert(
+            self.alloc,
+            &mut self.root,
+            Block::around(prefix),
+            prefix,
+            value,
+        )
     }
 
     /// Removes a prefix, and returns its value, if there is one.

@@ -1,6 +1,5 @@
-use Rattle.std.proofs.Common.{◌≡◌, ◌<◌, ◌≤◌, ◌+◌, ◌-◌, ◌^◌, sym, ◌∙◌, length, rules, arith}
+use Rattle.std.proofs.Common.{◌≡◌, ◌<◌, ◌+◌, ◌-◌, ◌^◌, sym, ◌∙◌, length, rules, arith}
 use Rattle.std.proofs.lemmas.Grind.{common_steps}
-use Rattle.xb_values.specs.Prefixes.{prefix_cmp}
 use Rattle.rib_tree.specs.Blocks.{IsIn}
 use Rattle.rib_tree.specs.Pages.{place_at}
 use Rattle.rib_tree.specs.Trees.{AllIn}
@@ -16,13 +15,14 @@ common-requires g t c κs within =
     let some : 0 < b.bits = first_of (search rules, grind (arith, common_steps)) in
     let middle : c.middle.result ≡ b.first + 2 ^ (b.bits - 1) = c.middle.ensures in
     let below : place_at (b.first + 2 ^ (b.bits - 1)) es ≡ length es =
-        sym (rw (c.deref.ensures.value, middle) at c.how_many_below-below.ensures.place) ∙ cc in
+    sym (rw (c.deref.ensures.value, middle) at c.how_many_below-below.ensures.place) ∙ cc in
     let half : AllIn c.low.result.first c.low.result.bits es =
-        rw (c.low.ensures.first, c.low.ensures.bits) (AllIn-below b.first b.bits es c.requires.within (all_below (b.first + 2 ^ (b.bits - 1)) es below)) in
+    rw (c.low.ensures.first, c.low.ensures.bits) (AllIn-below b.first b.bits es c.requires.within
+    (all_below (b.first + 2 ^ (b.bits - 1)) es below)) in
     let key : IsIn c.low.result.first c.low.result.bits c.args.key =
-        rw (c.low.ensures.first, c.low.ensures.bits) (IsIn-low b.first b.bits c.args.key c.requires.key
-        (omega (arith, c.addr.ensures.value, c.middle-2.ensures))) in
-    (first_of (omega arith, search rules, grind (arith, common_steps)), (within, (c.requires.rising, (half, key))))
+    rw (c.low.ensures.first, c.low.ensures.bits) (IsIn-low b.first b.bits c.args.key c.requires.key
+    (omega (arith, c.addr.ensures.value, c.middle-2.ensures))) in
+    (omega arith, (within, (c.requires.rising, (half, key))))
 
 pub common-requires-then-below-eq0 : goal.common-requires-then-below-eq0
 common-requires-then-below-eq0 g t c κs within =
@@ -31,11 +31,11 @@ common-requires-then-below-eq0 g t c κs within =
     let some : 0 < b.bits = first_of (search rules, grind (arith, common_steps)) in
     let middle : c.middle.result ≡ b.first + 2 ^ (b.bits - 1) = c.middle.ensures in
     let below : place_at (b.first + 2 ^ (b.bits - 1)) es ≡ 0 =
-        sym (rw (c.deref.ensures.value, middle) at c.how_many_below-below.ensures.place) ∙ cc in
+    sym (rw (c.deref.ensures.value, middle) at c.how_many_below-below.ensures.place) ∙ cc in
     let half : AllIn c.high.result.first c.high.result.bits es =
-        rw (c.high.ensures.first, c.high.ensures.bits) (AllIn-from b.first b.bits es some c.requires.within
-        (all_from (b.first + 2 ^ (b.bits - 1)) es c.requires.rising below)) in
+    rw (c.high.ensures.first, c.high.ensures.bits) (AllIn-from b.first b.bits es some c.requires.within
+    (all_from (b.first + 2 ^ (b.bits - 1)) es c.requires.rising below)) in
     let key : IsIn c.high.result.first c.high.result.bits c.args.key =
-        rw (c.high.ensures.first, c.high.ensures.bits) (IsIn-high b.first b.bits c.args.key some c.requires.key
-        (omega (arith, c.addr.ensures.value, c.middle-2.ensures))) in
-    (first_of (omega arith, search rules, grind (arith, common_steps)), (within, (c.requires.rising, (half, key))))
+    rw (c.high.ensures.first, c.high.ensures.bits) (IsIn-high b.first b.bits c.args.key some c.requires.key
+    (omega (arith, c.addr.ensures.value, c.middle-2.ensures))) in
+    (omega arith, (within, (c.requires.rising, (half, key))))

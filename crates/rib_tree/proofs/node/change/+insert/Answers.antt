@@ -1,5 +1,4 @@
-use Rattle.std.proofs.Common.{◌<◌, ◌≤◌, ◌+◌, ◌-◌, ◌^◌, refl, rules, arith}
-use Rattle.std.proofs.lemmas.Grind.{common_steps}
+use Rattle.std.proofs.Common.{◌<◌, ◌≤◌, ◌+◌, ◌-◌, ◌^◌, refl, arith}
 use Rattle.rib_tree.specs.declared.node.Node.TheVariants.{Fork}
 use Rattle.rib_tree.specs.Blocks.{IsIn}
 use Rattle.rib_tree.specs.Trees.{IsTree}
@@ -15,11 +14,11 @@ insert-requires-else-addr-middle g t c κs within =
     let fewer = part_bits b.first b.bits h.block.first h.block.bits tree.1 in
     let some : 0 < h.block.bits = tree.0 in
     let side : h.block.first + 2 ^ (h.block.bits - 1) ≤ c.args.key.addr =
-        omega (arith, c.addr.ensures.value, rw c.deref_mut-halves.ensures.value at c.middle.ensures) in
+    omega (arith, c.addr.ensures.value, rw c.deref_mut-halves.ensures.value at c.middle.ensures) in
     let room = rw c.in-Fork.is at c.if-not-make_room.ensures.room in
     let key : IsIn h.block.first h.block.bits c.args.key = room refl in
     rw (c.high.ensures.first, c.high.ensures.bits, c.deref_mut-halves.ensures.value)
-    (first_of (omega arith, search rules, grind (arith, common_steps)), (within, (tree.3, IsIn-high h.block.first h.block.bits c.args.key some key side)))
+    (omega arith, (within, (tree.3, IsIn-high h.block.first h.block.bits c.args.key some key side)))
 
 pub returns-in-Leaf-clause-tree : goal.returns-in-Leaf-clause-tree
 returns-in-Leaf-clause-tree g t c =

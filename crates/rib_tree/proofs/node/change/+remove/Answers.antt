@@ -1,4 +1,4 @@
-use Rattle.std.proofs.Common.{◌≡◌, ◌<◌, ◌≤◌, ◌+◌, ◌-◌, ◌^◌, ◌++◌, sym, ◌∙◌, rules, arith}
+use Rattle.std.proofs.Common.{◌≡◌, ◌<◌, ◌≤◌, ◌+◌, ◌-◌, ◌^◌, ◌++◌, sym, ◌∙◌, arith}
 use Rattle.std.proofs.lemmas.Grind.{common_steps}
 use Rattle.xb_words.specs.Table.{without}
 use Rattle.xb_values.specs.Prefixes.{prefix_cmp}
@@ -22,7 +22,7 @@ remove-value-requires g t c κs within =
     let fewer = part_bits b.first b.bits h.block.first h.block.bits tree.1 in
     let some : 0 < h.block.bits = tree.0 in
     rw (c.low.ensures.first, c.low.ensures.bits, c.deref_mut-halves.ensures.value)
-    (first_of (omega arith, search rules, grind (arith, common_steps)), (within, tree.2))
+    (omega arith, (within, tree.2))
 
 pub remove-value-requires-else-addr-middle : goal.remove-value-requires-else-addr-middle
 remove-value-requires-else-addr-middle g t c κs within =
@@ -32,7 +32,7 @@ remove-value-requires-else-addr-middle g t c κs within =
     let fewer = part_bits b.first b.bits h.block.first h.block.bits tree.1 in
     let some : 0 < h.block.bits = tree.0 in
     rw (c.high.ensures.first, c.high.ensures.bits, c.deref_mut-halves.ensures.value)
-    (first_of (omega arith, search rules, grind (arith, common_steps)), (within, tree.3))
+    (omega arith, (within, tree.3))
 
 pub returns-then-addr-middle-clause-entries : goal.returns-then-addr-middle-clause-entries
 returns-then-addr-middle-clause-entries g t c =
@@ -41,9 +41,10 @@ returns-then-addr-middle-clause-entries g t c =
     let p = h.block in
     let tree : IsTree b.first b.bits (Fork c.in-Fork.halves) = rw c.in-Fork.is at c.requires in
     let side : c.args.key.addr < p.first + 2 ^ (p.bits - 1) =
-        omega (arith, c.addr.ensures.value, rw c.deref_mut-halves.ensures.value at c.middle.ensures) in
-    let parts : entries_of c.close_up.new.tree.node ≡ without prefix_cmp (entries_of h.low.node) c.args.key ++ entries_of h.high.node =
-        grind (arith, common_steps) in
+    omega (arith, c.addr.ensures.value, rw c.deref_mut-halves.ensures.value at c.middle.ensures) in
+    let parts : entries_of c.close_up.new.tree.node
+    ≡ without prefix_cmp (entries_of h.low.node) c.args.key ++ entries_of h.high.node =
+    grind (arith, common_steps) in
     let rising = tree_rises b.first b.bits (Fork c.in-Fork.halves) tree in
     rw c.in-Fork.is
     (parts ∙ sym (without-low p.first p.bits h.low.node h.high.node c.args.key rising tree.3 side))
@@ -55,8 +56,9 @@ returns-else-addr-middle-clause-entries g t c =
     let p = h.block in
     let tree : IsTree b.first b.bits (Fork c.in-Fork.halves) = rw c.in-Fork.is at c.requires in
     let side : p.first + 2 ^ (p.bits - 1) ≤ c.args.key.addr =
-        omega (arith, c.addr.ensures.value, rw c.deref_mut-halves.ensures.value at c.middle.ensures) in
-    let parts : entries_of c.close_up-else-addr-middle.new.tree.node ≡ entries_of h.low.node ++ without prefix_cmp (entries_of h.high.node) c.args.key =
-        grind (arith, common_steps) in
+    omega (arith, c.addr.ensures.value, rw c.deref_mut-halves.ensures.value at c.middle.ensures) in
+    let parts : entries_of c.close_up-else-addr-middle.new.tree.node
+    ≡ entries_of h.low.node ++ without prefix_cmp (entries_of h.high.node) c.args.key =
+    grind (arith, common_steps) in
     rw c.in-Fork.is
     (parts ∙ sym (without-high p.first p.bits h.low.node h.high.node c.args.key tree.2 side))
