@@ -1,4 +1,5 @@
 pub mod AddressLemmas
 pub mod AppendLemmas
+pub mod BlockLemmas
 pub mod PageLemmas
 pub mod TreesLemmas

@@ -116,6 +116,18 @@ module _ {V : Type 0} where
     )
   ]
 
+  -- all entries have addresses below one, if as many have as there are
+  pub all_below : (a : ℕ) (es : List (Prefix × V)) → place_at a es ≡ length es → AllBelow a es
+  all_below a [] all = tt
+  all_below a (e ∷ es) all = elim (cases_Bool (nat_lt e.0.addr a)) [
+    | inl is ↦ (ltb-true e.0.addr a is, all_below a es (omega (arith, rw is at all)))
+    | inr not ↦ absurd (omega (arith, rw not at all))
+  ]
+
+  -- and no entry has, if as many as none have
+  pub all_from : (a : ℕ) (es : List (Prefix × V)) → IsRising prefix_cmp es → place_at a es ≡ 0 → AllFrom a es
+  all_from a es rising none = rw none at (AllFrom-drop a es rising)
+
   -- the keys before and after an index rise
   pub IsRising-drop : (n : ℕ) (es : List (Prefix × V)) → IsRising prefix_cmp es → IsRising prefix_cmp (drop n es)
   IsRising-drop zero es rising = rising

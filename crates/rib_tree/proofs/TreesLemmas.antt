@@ -1,11 +1,10 @@
 -- What the calls on the tree of a block of addresses are on the trees of its halves.
-use Rattle.std.proofs.Common.{◌≡◌, ◌<◌, ◌≤◌, ◌+◌, ◌-◌, ◌^◌, ℕ, inl, inr, zero, suc, List, [], ◌∷◌, ◌++◌, Some, true}
+use Rattle.std.proofs.Common.{◌≡◌, ◌<◌, ◌≤◌, ◌+◌, ◌-◌, ◌^◌, ℕ, inl, inr, List, [], ◌∷◌, ◌++◌, Some, None, refl}
 use Rattle.std.specs.Prelude.{Result, Ok, Err, OnOk, OnErr, nat_lt}
-use Rattle.std.proofs.lemmas.Bool.{cases_Bool}
+use Rattle.std.proofs.lemmas.Bool.{cases_Bool, cases_lt}
 use Rattle.xb_words.proofs.ListLemmas.{AllByRecursion-left, AllByRecursion-right}
 use Rattle.std.specs.List.Sorted.{IsStrictlySortedBy}
 use Rattle.std.proofs.Common.{arith}
-use Rattle.std.proofs.Math.Nat.{two-pow-succ}
 use Rattle.std.specs.List.{AllByRecursion}
 use Rattle.std.specs.Option.{option_or}
 use Rattle.std.specs.declared.cmp.Ordering.TheVariants.{Less, Greater}
@@ -17,25 +16,12 @@ use Rattle.xb_values.specs.Prefixes.{Prefix, prefix_cmp}
 use Rattle.xb_values.proofs.PrefixLemmas.{prefix_total}
 use Rattle.rib_tree.specs.declared.node.Node.{Node, Leaf, Fork'}
 use Rattle.rib_tree.specs.Pages.{AllBelow, AllFrom}
-use Rattle.rib_tree.specs.Trees.{entries_of, is_leaf, nodes_to, IsIn, AllIn, IsTree}
+use Rattle.rib_tree.specs.Blocks.{IsIn, IsPart}
+use Rattle.rib_tree.specs.Trees.{entries_of, nodes_to, AllIn, IsTree}
+use Rattle.rib_tree.proofs.BlockLemmas.{two_halves, part_bits, part_least, part_most}
+use Rattle.rib_tree.proofs.BlockLemmas.{IsIn-low, IsIn-high, IsPart-self, IsPart-low, IsPart-high, IsPart-trans}
 use Rattle.rib_tree.proofs.AddressLemmas.{before_by_address, after_by_address}
 use Rattle.rib_tree.proofs.AppendLemmas as append
-
--- a block is as large as its two halves
-pub two_halves : (bits : ℕ) → 0 < bits → 2 ^ bits ≡ 2 ^ (bits - 1) + 2 ^ (bits - 1)
-two_halves zero some = absurd (omega arith)
-two_halves (suc b) some = let b_is : suc b - 1 ≡ b = omega arith in rw b_is (two-pow-succ b)
-
--- the address of a prefix of a block is one of the lower half
-pub IsIn-low : (first bits : ℕ) (k : Prefix) → IsIn first bits k → k.addr < first + 2 ^ (bits - 1)
-    → IsIn first (bits - 1) k
-IsIn-low first bits k key lower = record { least = key.least; most = lower }
-
--- or of the upper one
-pub IsIn-high : (first bits : ℕ) (k : Prefix) → 0 < bits → IsIn first bits k → first + 2 ^ (bits - 1) ≤ k.addr
-    → IsIn (first + 2 ^ (bits - 1)) (bits - 1) k
-IsIn-high first bits k some key upper =
-    record { least = upper; most = omega (arith, key.most, two_halves bits some) }
 
 rising_none : (V : Type 0) → IsRising {X = V} prefix_cmp []
 unfolding IsStrictlySortedBy
@@ -64,10 +50,14 @@ module _ {V : Type 0} where
   -- all entries of the tree of a block are in the block
   pub all_in : (first bits : ℕ) (t : Node V) → IsTree first bits t → AllIn first bits (entries_of t)
   all_in first bits (Leaf page) tree = tree.1
-  all_in first bits (Fork' p low high) tree =
-      append.AllByRecursion-append (λ (e : Prefix × V). IsIn first bits e.0) (entries_of low) (entries_of high)
-      (AllIn-low first bits (entries_of low) tree.0 (all_in first (bits - 1) low tree.1))
-      (AllIn-high first bits (entries_of high) tree.0 (all_in (first + 2 ^ (bits - 1)) (bits - 1) high tree.2))
+  all_in first bits (Fork' p block low high) tree =
+      all_wider first bits block.first block.bits (entries_of low ++ entries_of high)
+      (part_least first bits block.first block.bits tree.1) (part_most first bits block.first block.bits tree.1)
+      (append.AllByRecursion-append (λ (e : Prefix × V). IsIn block.first block.bits e.0)
+      (entries_of low) (entries_of high)
+      (AllIn-low block.first block.bits (entries_of low) tree.0 (all_in block.first (block.bits - 1) low tree.2))
+      (AllIn-high block.first block.bits (entries_of high) tree.0
+      (all_in (block.first + 2 ^ (block.bits - 1)) (block.bits - 1) high tree.3)))
 
   each_after : (k : Prefix) (first bits : ℕ) (es : List (Prefix × V)) → k.addr < first → AllIn first bits es
       → Each prefix_cmp prefix_total Less k es
@@ -92,11 +82,54 @@ module _ {V : Type 0} where
   -- the entries of a tree are by rising prefix
   pub tree_rises : (first bits : ℕ) (t : Node V) → IsTree first bits t → IsRising prefix_cmp (entries_of t)
   tree_rises first bits (Leaf page) tree = tree.0
-  tree_rises first bits (Fork' p low high) tree =
+  tree_rises first bits (Fork' p block low high) tree =
       append.IsRising-append prefix_cmp prefix_total (entries_of low) (entries_of high)
-      (tree_rises first (bits - 1) low tree.1) (tree_rises (first + 2 ^ (bits - 1)) (bits - 1) high tree.2)
-      (all_before first (bits - 1) (first + 2 ^ (bits - 1)) (bits - 1) (entries_of low) (entries_of high) (omega arith)
-      (all_in first (bits - 1) low tree.1) (all_in (first + 2 ^ (bits - 1)) (bits - 1) high tree.2))
+      (tree_rises block.first (block.bits - 1) low tree.2)
+      (tree_rises (block.first + 2 ^ (block.bits - 1)) (block.bits - 1) high tree.3)
+      (all_before block.first (block.bits - 1) (block.first + 2 ^ (block.bits - 1)) (block.bits - 1)
+      (entries_of low) (entries_of high) (omega arith)
+      (all_in block.first (block.bits - 1) low tree.2)
+      (all_in (block.first + 2 ^ (block.bits - 1)) (block.bits - 1) high tree.3))
+
+  -- the tree of a part of a block is one of the block
+  pub IsTree-wider : (first bits from size : ℕ) (t : Node V) → IsPart first bits from size → IsTree from size t
+      → IsTree first bits t
+  IsTree-wider first bits from size (Leaf page) part tree = (
+    tree.0,
+    all_wider first bits from size page.items (part_least first bits from size part)
+        (part_most first bits from size part) tree.1,
+  )
+  IsTree-wider first bits from size (Fork' p block low high) part tree =
+      (tree.0, IsPart-trans first bits from size block.first block.bits part tree.1, tree.2, tree.3)
+
+  -- so is that of a half of a part
+  pub IsTree-low : (first bits from size : ℕ) (t : Node V) → 0 < size → IsPart first bits from size
+      → IsTree from (size - 1) t → IsTree first bits t
+  IsTree-low first bits from size t some part tree =
+      IsTree-wider first bits from (size - 1) t
+      (IsPart-trans first bits from size from (size - 1) part
+      (IsPart-low from size from (size - 1) some (IsPart-self from (size - 1)))) tree
+
+  pub IsTree-high : (first bits from size : ℕ) (t : Node V) → 0 < size → IsPart first bits from size
+      → IsTree (from + 2 ^ (size - 1)) (size - 1) t → IsTree first bits t
+  IsTree-high first bits from size t some part tree =
+      IsTree-wider first bits (from + 2 ^ (size - 1)) (size - 1) t
+      (IsPart-trans first bits from size (from + 2 ^ (size - 1)) (size - 1) part
+      (IsPart-high from size (from + 2 ^ (size - 1)) (size - 1) some
+      (IsPart-self (from + 2 ^ (size - 1)) (size - 1)))) tree
+
+  value_at-apart : (first bits : ℕ) (es : List (Prefix × V)) (k : Prefix) → AllIn first bits es
+      → (IsIn first bits k → ⊥) → value_at prefix_cmp es k ≡ None
+  value_at-apart first bits [] k all apart = refl
+  value_at-apart first bits (e ∷ es) k all apart = elim (cases_lt k.addr first) [
+    | inl below ↦ rw (before_by_address k e.0 (omega (arith, all.0.least)))
+        (value_at-apart first bits es k all.1 apart)
+    | inr from ↦ elim (cases_lt k.addr (first + 2 ^ bits)) [
+      | inl to ↦ absurd (apart (record { least = from; most = to }))
+      | inr above ↦ rw (after_by_address k e.0 (omega (arith, all.0.most)))
+          (value_at-apart first bits es k all.1 apart)
+    ]
+  ]
 
   module _ (first bits : ℕ) (low high : Node V) (k : Prefix) where
     -- a prefix of the lower half is looked up there
@@ -156,21 +189,20 @@ module _ {V : Type 0} where
         append.entry_after-past prefix_cmp prefix_total k (entries_of low) (entries_of high)
         (each_before k first (bits - 1) (entries_of low) upper (all_in _ _ low tree))
 
+  -- a prefix outside the block of a fork is not below it
+  pub fork_absent : (first bits : ℕ) (low high : Node V) (k : Prefix) → 0 < bits → IsTree first (bits - 1) low
+      → IsTree (first + 2 ^ (bits - 1)) (bits - 1) high → (IsIn first bits k → ⊥)
+      → value_at prefix_cmp (entries_of low ++ entries_of high) k ≡ None
+  fork_absent first bits low high k some below above apart =
+      value_at-apart first bits (entries_of low ++ entries_of high) k
+      (append.AllByRecursion-append (λ (e : Prefix × V). IsIn first bits e.0) (entries_of low) (entries_of high)
+      (AllIn-low first bits (entries_of low) some (all_in first (bits - 1) low below))
+      (AllIn-high first bits (entries_of high) some (all_in (first + 2 ^ (bits - 1)) (bits - 1) high above))) apart
+
   -- the first entry is that of the lower half, if it has one
   pub first_of_halves : (low high : Node V) → first_of (entries_of low ++ entries_of high)
       ≡ option_or (first_of (entries_of low)) (first_of (entries_of high))
   first_of_halves low high = append.first_of-append (entries_of low) (entries_of high)
-
-  -- a leaf of a half is one of the block
-  pub leaf-low : (first bits : ℕ) (t : Node V) → is_leaf t ≡ true → 0 < bits → IsTree first (bits - 1) t
-      → IsTree first bits t
-  leaf-low first bits (Leaf page) leaf some tree = (tree.0, AllIn-low first bits page.items some tree.1)
-  leaf-low first bits (Fork' p low high) leaf some tree = absurd (cc leaf)
-
-  pub leaf-high : (first bits : ℕ) (t : Node V) → is_leaf t ≡ true → 0 < bits
-      → IsTree (first + 2 ^ (bits - 1)) (bits - 1) t → IsTree first bits t
-  leaf-high first bits (Leaf page) leaf some tree = (tree.0, AllIn-high first bits page.items some tree.1)
-  leaf-high first bits (Fork' p low high) leaf some tree = absurd (cc leaf)
 
   -- no entries are a page of any block
   pub page_of_none : (first bits : ℕ) (es : List (Prefix × V)) → es ≡ [] → IsRising prefix_cmp es × AllIn first bits es
@@ -231,26 +263,33 @@ module _ {V : Type 0} where
       (AllByRecursion-right (λ (e : Prefix × V). IsIn first bits e.0) ls rs (rw is within)) from
 
   -- a path has a node
-  pub nodes_some : (first bits : ℕ) (k : Prefix) (t : Node V) → 1 ≤ nodes_to first bits k t
-  nodes_some first bits k (Leaf page) = omega arith
-  nodes_some first bits k (Fork' p low high) = omega arith
+  pub nodes_some : (k : Prefix) (t : Node V) → 1 ≤ nodes_to k t
+  nodes_some k (Leaf page) = omega arith
+  nodes_some k (Fork' p block low high) = omega arith
 
   -- and at most one more than the block has bits
-  pub nodes_most : (first bits : ℕ) (k : Prefix) (t : Node V) → IsTree first bits t → nodes_to first bits k t ≤ bits + 1
+  pub nodes_most : (first bits : ℕ) (k : Prefix) (t : Node V) → IsTree first bits t → nodes_to k t ≤ bits + 1
   nodes_most first bits k (Leaf page) tree = omega arith
-  nodes_most first bits k (Fork' p low high) tree = elim (cases_Bool (nat_lt k.addr (first + 2 ^ (bits - 1)))) [
-    | inl lower ↦ rw lower (omega (arith, tree.0, nodes_most first (bits - 1) k low tree.1))
-    | inr upper ↦ rw upper (omega (arith, tree.0, nodes_most (first + 2 ^ (bits - 1)) (bits - 1) k high tree.2))
-  ]
+  nodes_most first bits k (Fork' p block low high) tree =
+      let fewer = part_bits first bits block.first block.bits tree.1 in
+      elim (cases_Bool (nat_lt k.addr (block.first + 2 ^ (block.bits - 1)))) [
+        | inl lower ↦ rw lower (omega (arith, fewer, tree.0, nodes_most block.first (block.bits - 1) k low tree.2))
+        | inr upper ↦ rw upper (omega (
+          arith,
+          fewer,
+          tree.0,
+          nodes_most (block.first + 2 ^ (block.bits - 1)) (block.bits - 1) k high tree.3,
+        ))
+      ]
 
 pub ruleset nodes = (nodes_some, nodes_most)
 
 pub ruleset find_at = (value_at-low, value_at-high)
 
-pub ruleset look_up = (find_at, nodes_some)
+pub ruleset half = (IsTree-low, IsTree-high)
 
-pub ruleset leaf = (leaf-low, leaf-high)
+pub ruleset look_up = (find_at, half, nodes_some)
 
-pub ruleset write = (find_at, with_value-low, with_value-high, IsIn-low, IsIn-high)
+pub ruleset write = (find_at, with_value-low, with_value-high, IsIn-low, IsIn-high, part_bits)
 
-pub ruleset walk = (first_of_halves, entry_after-low, entry_after-high)
+pub ruleset walk = (first_of_halves, entry_after-low, entry_after-high, half)

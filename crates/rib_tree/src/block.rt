@@ -1,6 +1,6 @@
 // Blocks of addresses.
-ghost use Rattle.std.specs.Prelude.{◌≡◌, ◌==◌, ◌+◌, ◌-◌, ◌^◌, ◌<◌, ◌≤◌};
-ghost use Rattle.rib_tree.specs.Trees.{IsIn};
+ghost use Rattle.std.specs.Prelude.{◌≡◌, ◌==◌, ◌+◌, ◌-◌, ◌^◌, ◌<◌, ◌≤◌, ◌↔◌, IsTrue};
+ghost use Rattle.rib_tree.specs.Blocks.{IsIn, IsPart};
 
 use xb_values::Prefix;
 
@@ -68,6 +68,42 @@ impl Block {
         Block {
             first: self.middle(),
             bits: self.bits - 1,
+        }
+    }
+    /// Whether the address of a prefix is one of the block.
+    pub fn has(self, key: Prefix) -> bool
+        ensures { IsTrue result ↔ IsIn self.first self.bits key }
+    {
+        let addr = u64::from(key.addr());
+        let first = u64::from(self.first);
+        first <= addr && addr < first + (1u64 << self.bits)
+    }
+
+    /// The smallest part that has another part, and a prefix outside that one.
+    #[tactic(auto, using(crate::proofs::BlockLemmas::parts))]
+    pub fn common(self, inner: Block, key: Prefix) -> Block
+        requires part { IsPart self.first self.bits inner.first inner.bits }
+        requires key { IsIn self.first self.bits key }
+        requires apart { IsIn inner.first inner.bits key → ⊥ }
+        ensures part { IsPart self.first self.bits result.first result.bits }
+        ensures some { 0 < result.bits }
+        ensures key { IsIn result.first result.bits key }
+        ensures low { result.first + 2 ^ (result.bits - 1) ≤ key.addr
+            → IsPart result.first (result.bits - 1) inner.first inner.bits }
+        ensures high { key.addr < result.first + 2 ^ (result.bits - 1)
+            → IsPart (result.first + 2 ^ (result.bits - 1)) (result.bits - 1) inner.first inner.bits }
+    {
+        let middle = self.middle();
+        if key.addr() < middle {
+            if inner.first < middle {
+                self.low().common(inner, key)
+            } else {
+                self
+            }
+        } else if inner.first < middle {
+            self
+        } else {
+            self.high().common(inner, key)
         }
     }
 }

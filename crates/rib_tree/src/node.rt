@@ -2,12 +2,15 @@
 ghost use Rattle.std.specs.Prelude.{◌≡◌, ◌+◌, ◌-◌, ◌^◌, ◌<◌, ℕ, []};
 ghost use Rattle.rib_tree.specs.Trees.{entries_of, IsTree};
 
+pub(crate) mod change;
+
+use crate::block::Block;
 use crate::page::Page;
 use std::alloc::Global;
 use std::mem;
 use xb_values::Steps;
 
-/// A node with all below it, for a block of addresses. Its one reading call is `read`, which counts a step.
+/// A node with all below it. Its one reading call is `read`, which counts a step.
 #[cycle(tree)]
 #[derive(Drop)]
 pub(crate) struct Subtree<V> {
@@ -21,10 +24,11 @@ pub(crate) enum Node<V> {
     Fork(Box<Halves<V>>),
 }
 
-/// What is in the lower and the upper half of a block.
+/// A block, and what is in its lower and its upper half.
 #[cycle(tree)]
 #[derive(Drop)]
 pub(crate) struct Halves<V> {
+    pub block: Block,
     pub low: Subtree<V>,
     pub high: Subtree<V>,
 }

@@ -25,8 +25,8 @@ fn place<V>(entries: &[(Prefix, V)], key: Prefix) -> usize
     entries.iter().take_while(|e| e.0 < key).count()
 }
 
-// How many entries have addresses below this one.
-fn place_of_addr<V>(entries: &[(Prefix, V)], addr: u32) -> usize
+/// How many entries have addresses below this one.
+pub(crate) fn how_many_below<V>(entries: &[(Prefix, V)], addr: u32) -> usize
     ensures place { result ≡ place_at addr entries.now }
     ensures within { result ≤ length entries.now }
 {
@@ -161,7 +161,7 @@ pub(crate) fn split<V>(entries: &mut Page<V>, addr: u32) -> Result<Page<V>, Allo
     ensures rising_others { IfOk result (λ others. IsRising prefix_cmp others.items) }
     ensures err { OnErr result (entries.new.items ≡ entries.old.items) }
 {
-    let at = place_of_addr(entries, addr);
+    let at = how_many_below(entries, addr);
     let others = entries.split_off(at)?;
     Ok(others)
 }

@@ -5,8 +5,8 @@ ghost use Rattle.xb_words.specs.Table.{entry_after, value_at, with_value, withou
 ghost use Rattle.xb_values.specs.Prefixes.{prefix_cmp};
 
 use crate::block::Block;
-use crate::change::{inserted, removed};
 use crate::node::Subtree;
+use crate::node::change::{insert, remove};
 use crate::walk::{find, first, first_after};
 use std::alloc::{AllocError, Global};
 use std::marker::Model;
@@ -51,7 +51,7 @@ impl<V> Tree<V> {
         ensures most { steps.new ≤ steps.old + 33 }
         ensures rising { IsRising prefix_cmp self.now }
     {
-        find(&self.root, Block::whole(), prefix, steps)
+        find(&self.root, prefix, steps)
     }
 
     /// The first prefix after the one given, or the first of all if none is given. None after the last.
@@ -61,7 +61,7 @@ impl<V> Tree<V> {
     {
         match after {
             None => first(&self.root),
-            Some(prefix) => first_after(&self.root, Block::whole(), prefix),
+            Some(prefix) => first_after(&self.root, prefix),
         }
     }
 }
@@ -77,10 +77,13 @@ impl<V: Drop> Tree<V> {
         ensures absent { OnErr result (value_at prefix_cmp self.old prefix ≡ None) }
         ensures rising { IsRising prefix_cmp self.new }
     {
-        let root = self.root.take(self.alloc);
-        let (root, result) = inserted(self.alloc, root, Block::around(prefix), prefix, value);
-        self.root = root;
-        result
+        insert(
+            self.alloc,
+            &mut self.root,
+            Block::around(prefix),
+            prefix,
+            value,
+        )
     }
 
     /// Removes a prefix, and returns its value, if there is one.
@@ -89,9 +92,6 @@ impl<V: Drop> Tree<V> {
         ensures after { self.new ≡ without prefix_cmp self.old prefix }
         ensures rising { IsRising prefix_cmp self.new }
     {
-        let root = self.root.take(self.alloc);
-        let (root, value) = removed(self.alloc, root, Block::whole(), prefix);
-        self.root = root;
-        value
+        remove(self.alloc, &mut self.root, Block::whole(), prefix)
     }
 }

@@ -1,7 +1,7 @@
 use Rattle.std.proofs.Common.{◌≡◌, rules}
 use Rattle.rib_tree.specs.declared.node.Node.TheVariants.{Leaf}
 use Rattle.rib_tree.proofs.TreesLemmas.{cut-low, cut-high}
-use Rattle.rib_tree.proofs.change.halved.Goals as goal
+use Rattle.rib_tree.proofs.node.change.halved.Goals as goal
 
 pub returns-in-Ok-split-clause-low : goal.returns-in-Ok-split-clause-low
 returns-in-Ok-split-clause-low g c =
