@@ -153,7 +153,13 @@ impl<R: Routes> Host for Sessions<R> {
     fn step(self, alloc: Global, event: Event<'_>, out: &mut Outputs) -> Result<Self, AllocError> {
         let Sessions { mut parts } = self;
         let held = &mut *parts;
-        turn(alloc, &mut held.links, &mut held.routes, &mut held.frames, event)?;
+        turn(
+            alloc,
+            &mut held.links,
+            &mut held.routes,
+            &mut held.frames,
+            event,
+        )?;
         drop_closed(&mut held.links, &mut held.frames);
         out.append(&mut held.links.outputs)?;
         Ok(Sessions { parts })
