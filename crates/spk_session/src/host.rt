@@ -18,16 +18,37 @@ use bgp_fsm::{State, Stimulus};
 use bpf_machine::Cause;
 use spk_model::{Host, Setup};
 use std::alloc::{AllocError, Global};
+use std::marker::Model;
 use xb_domain::{Event, Outputs, Packing};
 use xb_values::{Buf, Prefix};
 
-/// A host: a buffer for the octets of each peer, what is kept of the peers, and a half that keeps routes.
+// What a host keeps.
 #[derive(Drop)]
-pub struct Sessions<R: Routes> {
+struct Parts<R: Routes> {
     frames: Vec<Frames>,
     links: Links,
     routes: R,
-    ghost sound: { IsSound frames.items (core_of (R.built_from routes) (R.routing routes) links) },
+}
+
+/// A host: a buffer for the octets of each peer, what is kept of the peers, and a half that keeps routes. They are in a
+/// box, since a host is moved at each event.
+#[derive(Drop)]
+pub struct Sessions<R: Routes> {
+    parts: Box<Parts<R>>,
+}
+
+// Contracts see the parts.
+impl<R: Routes> Model for Sessions<R> {
+    ghost use Rattle.spk_session.specs.declared.host.Parts.{Parts};
+    ghost use Rattle.spk_session.specs.Meaning.{core_of};
+    ghost use Rattle.spk_session.specs.Hosting.{IsSound};
+
+    ghost Value = { Parts R };
+
+    ghost view = { λ s. s.parts.value };
+
+    ghost invariant = { λ s. let p = s.parts.value in
+        IsSound p.frames.items (core_of (R.built_from p.routes) (R.routing p.routes) p.links) };
 }
 
 impl<R: Routes> Sessions<R> {
@@ -37,7 +58,7 @@ impl<R: Routes> Sessions<R> {
         ensures setup { R.built_from result.now ≡ ⟦<Sessions<R> as Host>⟧.built_from self.now }
         ensures routing { R.routing result.now ≡ (⟦<Sessions<R> as Host>⟧.speaker self.now).routing }
     {
-        &self.routes
+        &self.parts.routes
     }
 }
 
@@ -119,46 +140,49 @@ impl<R: Routes> Host for Sessions<R> {
         let count = count_of(routes.config());
         let links = make_links(alloc, hold, count)?;
         let frames = make_frames(alloc, count)?;
-        Ok(Sessions {
+        let parts = Parts {
             frames,
             links,
             routes,
+        };
+        Ok(Sessions {
+            parts: Box::new(alloc, parts)?,
         })
     }
 
     fn step(self, alloc: Global, event: Event<'_>, out: &mut Outputs) -> Result<Self, AllocError> {
-        let Sessions {
-            mut frames,
-            mut links,
-            mut routes,
-        } = self;
-        turn(alloc, &mut links, &mut routes, &mut frames, event)?;
-        drop_closed(&mut links, &mut frames);
-        out.append(&mut links.outputs)?;
-        Ok(Sessions {
-            frames,
-            links,
-            routes,
-        })
+        let Sessions { mut parts } = self;
+        let held = &mut *parts;
+        turn(
+            alloc,
+            &mut held.links,
+            &mut held.routes,
+            &mut held.frames,
+            event,
+        )?;
+        drop_closed(&mut held.links, &mut held.frames);
+        out.append(&mut held.links.outputs)?;
+        Ok(Sessions { parts })
     }
 
     fn route_after(&self, after: Option<Prefix>, section: &mut Buf) -> Option<(Prefix, u32)> {
-        self.routes.route_after(after, section)
+        self.parts.routes.route_after(after, section)
     }
 
     fn adv_after(&self, peer: u32, after: Option<Prefix>, section: &mut Buf) -> Option<Prefix> {
-        self.routes.adv_after(peer, after, section)
+        self.parts.routes.adv_after(peer, after, section)
     }
 
     fn drained(&self, peer: u32) -> bool {
-        is_drained(&self.links, &self.routes, peer)
+        let held = &*self.parts;
+        is_drained(&held.links, &held.routes, peer)
     }
 
     fn map_after(&self, map: u32, after: Option<&[u8]>) -> Option<(&[u8], &[u8])> {
-        self.routes.map_after(map, after)
+        self.parts.routes.map_after(map, after)
     }
 
     fn fault_noted(&self, program: u32, cause: Cause) -> bool {
-        self.routes.fault_noted(program, cause)
+        self.parts.routes.fault_noted(program, cause)
     }
 }
