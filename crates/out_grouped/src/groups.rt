@@ -87,21 +87,24 @@ pub(crate) fn drop_empty(groups: &mut Groups, section: &[u8])
     }
 }
 
-// A prefix leaves the group of a section, which may then be empty.
-fn remove_from(groups: &mut Groups, section: &[u8], prefix: Prefix)
+// A prefix leaves the group of a section. Whether the group is then empty is returned.
+fn remove_from(groups: &mut Groups, section: &[u8], prefix: Prefix) -> bool
     ensures { Leaves groups.old groups.new (Some section.now) prefix }
 {
     if let Some(group) = groups.get_mut(section) {
         let _ = group.remove(&prefix);
+        return group.is_empty();
     }
+    false
 }
 
 // A prefix leaves the group of a section.
 fn leave_one(groups: &mut Groups, section: &[u8], prefix: Prefix)
     ensures { Leaves groups.old groups.new (Some section.now) prefix }
 {
-    remove_from(groups, section, prefix);
-    drop_empty(groups, section);
+    if remove_from(groups, section, prefix) {
+        drop_empty(groups, section);
+    }
 }
 
 /// A prefix leaves the group of the section with which it waited, if it did.
