@@ -9,3 +9,4 @@ pub mod ExportLemmas
 pub mod FaultLemmas
 pub mod EachLemmas
 pub mod ReceiptLemmas
+pub mod FormLemmas

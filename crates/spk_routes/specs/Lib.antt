@@ -1,5 +1,6 @@
 pub mod Candidates
 pub mod Exports
+pub mod Forms
 pub mod Sound
 pub mod Rooms
 pub mod Each

@@ -1,7 +1,7 @@
 -- The room that an `Exporter` keeps for sections (for its private fields).
 use Rattle.std.specs.Prelude.{◌≡◌}
 use Rattle.bgp_attr.specs.declared.TheConstants.{MAX_CANONICAL}
-use Rattle.spk_routes.specs.declared.export.Sections.{Sections}
+use Rattle.spk_routes.specs.declared.section.Sections.{Sections}
 
 -- each buffer has room for any canonical section
 pub record HaveRoom (s : Sections) : Type 0 where

@@ -1,54 +1,52 @@
 // What a best route becomes for a peer.
-ghost use Rattle.std.specs.Prelude.{◌≡◌, ◌≤◌, [], length, Some, None, IfOk, IsTrue, MatchBool};
+ghost use Rattle.std.specs.Prelude.{◌≡◌, [], true, IfOk, MatchBool};
 ghost use Rattle.std.specs.Bool.{OnTrue};
-ghost use Rattle.bgp_attr.specs.Routes.{route_of, IsRoute};
+ghost use Rattle.xb_domain.specs.declared.point.Point.TheVariants.{Outbound};
+ghost use Rattle.bgp_attr.specs.Routes.{IsRoute};
 ghost use Rattle.spk_native.specs.Export.{carry};
 ghost use Rattle.spk_native.specs.Filters.{accepts_outbound};
-ghost use Rattle.spk_native.specs.Receipt.{wire};
 ghost use Rattle.spk_native.specs.Values.{HasNoFault};
+ghost use Rattle.xbgp_points.specs.Chains.{programs_at};
 ghost use Rattle.xbgp_points.specs.Points.{outbound};
 ghost use Rattle.spk_model.specs.Choosing.{Trace};
-ghost use Rattle.spk_model.specs.Exporting.{accepted, encoded_for, exported, short_enough};
-ghost use Rattle.spk_routes.specs.Exports.{given_or, Exports, IsRefused, Passes};
+ghost use Rattle.spk_model.specs.Exporting.{accepted, encoded_for, exported};
+ghost use Rattle.spk_routes.specs.Exports.{given_or, Exports, IsRefused, Passes, RunsNone};
 ghost use Rattle.spk_routes.specs.Rooms.{HaveRoom};
 ghost use Rattle.spk_routes.specs.Sound.{IsSound};
 
+use crate::forms::Forms;
+use crate::section::{Sections, see_shape, write_form};
 use crate::sides::{local_of, local_pref_of};
-use bgp_attr::MAX_CANONICAL;
-use spk_native::{export_attrs, narrow_route, native_section, outbound_native};
+use spk_native::{export_attrs, native_section, outbound_native};
 use std::alloc::{AllocError, Global};
 use std::marker::Model;
 use xb_domain::Side;
-use xb_values::{Buf, Prefix};
-use xb_wire::numbers::MAX_SECTION;
+use xb_values::Prefix;
 use xbgp_config::Config;
 use xbgp_points::{Engine, Outcome};
-use xbgp_view::{Overlay, RouteView, write_section};
+use xbgp_view::{Overlay, RouteView};
 
-// The buffers of sections: what the native function writes, what programs give, and what is advertised.
-#[derive(Drop)]
-struct Sections {
-    native: Buf,
-    given: Buf,
-    sent: Buf,
-}
-
-/// Exports best routes to peers. All room is taken when it is made. Contracts see the section that was written last.
+/// Exports best routes to peers. All room is taken when it is made. Contracts see the best route that was loaded last,
+/// and the section that was written last.
 #[derive(Drop)]
 pub struct Exporter {
+    best: Overlay,
+    // What the best route becomes.
     route: Overlay,
+    forms: Forms,
     sections: Sections,
 }
 
 impl Model for Exporter {
-    ghost use Rattle.std.specs.Prelude.{ℕ, List};
+    ghost use Rattle.spk_routes.specs.Exports.{Exporting};
+    ghost use Rattle.spk_routes.specs.Forms.{HaveForms};
     ghost use Rattle.spk_routes.specs.Rooms.{HaveRoom};
 
-    ghost Value = { List ℕ };
+    ghost Value = { Exporting };
 
-    ghost view = { λ e. e.sections.sent.octets };
+    ghost view = { λ e. record { best = e.best.route; section = e.sections.sent.octets } };
 
-    ghost invariant = { λ e. HaveRoom e.sections };
+    ghost invariant = { λ e. HaveRoom e.sections × HaveForms e.forms e.best.route };
 }
 
 /// Whether a chain accepts: by its verdict, which is 1, or else as the native function does.
@@ -71,43 +69,20 @@ fn given_section<'a>(outcome: &Outcome, given: &'a [u8], native: &'a [u8]) -> &'
     }
 }
 
-// Shows contracts that an overlay has a route that a view may show.
-fn see_shape(route: &Overlay)
-    ensures { IsRoute route.now.route }
-{
-    let _ = route.code_from(0);
-}
-
-// Writes a section in the form of a session, and returns whether it is short enough to be sent.
-fn write_form(section: &[u8], wide: bool, route: &mut Overlay, out: &mut Buf) -> bool
-    requires short { length section.now ≤ MAX_CANONICAL }
-    requires faultless { HasNoFault (route_of section.now) }
-    requires room { out.old.capacity ≡ MAX_CANONICAL }
-    ensures written { MatchBool result
-        (short_enough (wire section.now wide) ≡ Some out.new.octets)
-        (short_enough (wire section.now wide) ≡ None) }
-    ensures capacity { out.new.capacity ≡ MAX_CANONICAL }
-{
-    if wide {
-        if section.len() > MAX_SECTION {
-            return false;
-        }
-        out.replace(section);
-        return true;
-    }
-    route.read(section);
-    if !narrow_route(route) {
-        return false;
-    }
-    write_section(route, out);
-    true
-}
-
 // Whether no program runs at outbound and the native function refuses there.
 fn is_refused(engine: &Engine, source: &Side, peer: &Side) -> bool
-    ensures { OnTrue result (IsRefused engine.now source.now peer.now) }
+    ensures { MatchBool result
+        (IsRefused engine.now source.now peer.now)
+        (programs_at engine.now.manifest Outbound ≡ [] → accepts_outbound source.now peer.now ≡ true) }
 {
     !engine.runs_at_outbound() && !outbound_native(source, peer)
+}
+
+// Whether no program runs at outbound and at encode.
+fn runs_none(engine: &Engine) -> bool
+    ensures { OnTrue result (RunsNone engine.now) }
+{
+    !engine.runs_at_outbound() && !engine.runs_at_encode()
 }
 
 // Carries a best route over to a peer, and returns whether it passes outbound.
@@ -175,31 +150,37 @@ fn encode_route<R: RouteView>(
 }
 
 impl Exporter {
-    /// An exporter that wrote no section yet. The error is want of memory.
+    /// An exporter of the route without attributes, that wrote no section yet. The error is want of memory.
     pub fn make(alloc: Global) -> Result<Exporter, AllocError>
-        ensures { IfOk result (λ e. e ≡ []) }
+        ensures { IfOk result (λ e. e ≡ record { best = []; section = [] }) }
     {
         Ok(Exporter {
+            best: Overlay::make(alloc)?,
             route: Overlay::make(alloc)?,
-            sections: Sections {
-                native: Buf::make(alloc, MAX_CANONICAL)?,
-                given: Buf::make(alloc, MAX_CANONICAL)?,
-                sent: Buf::make(alloc, MAX_CANONICAL)?,
-            },
+            forms: Forms::make(alloc)?,
+            sections: Sections::make(alloc)?,
         })
+    }
+
+    /// Loads the best route that is exported from now on.
+    pub fn load<R: RouteView>(&mut self, best: &R)
+        ensures { self.new ≡ record self.old { best = R.route best.now } }
+    {
+        self.forms.forget(&self.best);
+        self.best.load(best);
     }
 
     /// The section that was written last.
     pub fn section(&self) -> &[u8]
-        ensures { result.now ≡ self.now }
+        ensures { result.now ≡ self.now.section }
     {
         self.sections.sent.as_slice()
     }
 
-    /// Exports the best route of a prefix, which came from `source`, to a peer: it is carried over, and passes outbound
-    /// and encode. Whether the prefix is then advertised is returned; if so, the section in the form of the peer's
-    /// session, in which AS numbers have four octets (`wide`) or two, can be read until the next export.
-    pub fn export<R: RouteView>(
+    /// Exports the best route, as that of a prefix, which came from `source`, to a peer: it is carried over, and passes
+    /// outbound and encode. Whether the prefix is then advertised is returned; if so, the section in the form of the
+    /// peer's session, in which AS numbers have four octets (`wide`) or two, can be read until the next export.
+    pub fn export(
         &mut self,
         engine: &mut Engine,
         config: &Config,
@@ -207,19 +188,29 @@ impl Exporter {
         wide: bool,
         source: &Side,
         prefix: Prefix,
-        best: &R,
     ) -> bool
         requires local { engine.old.local ≡ config.now.local }
-        requires sound { IsSound (R.route best.now) }
-        ensures { Exports
+        requires sound { IsSound self.old.best }
+        ensures exports { Exports
             (exported engine.old.manifest config.now.local config.now.local_pref engine.old.engine peer.now wide
-            source.now prefix (R.route best.now))
-            engine.old engine.new result self.new }
+            source.now prefix self.old.best)
+            engine.old engine.new result self.new.section }
+        ensures best { self.new.best ≡ self.old.best }
     {
         if is_refused(engine, source, peer) {
             return false;
         }
-        if !pass_outbound(&mut self.route, engine, config, peer, source, prefix, best) {
+        if runs_none(engine) {
+            return self.forms.write(
+                config,
+                peer,
+                wide,
+                &self.best,
+                &mut self.route,
+                &mut self.sections,
+            );
+        }
+        if !pass_outbound(&mut self.route, engine, config, peer, source, prefix, &self.best) {
             return false;
         }
         encode_route(
@@ -228,7 +219,7 @@ impl Exporter {
             peer,
             wide,
             source,
-            best,
+            &self.best,
             &mut self.sections,
         )
     }
