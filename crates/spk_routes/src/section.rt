@@ -12,7 +12,7 @@ use spk_native::narrow_route;
 use std::alloc::{AllocError, Global};
 use xb_values::Buf;
 use xb_wire::numbers::MAX_SECTION;
-use xbgp_view::{Overlay, write_section};
+use xbgp_view::{Overlay, RouteView, write_section};
 
 /// The buffers of sections: what the native function writes, what programs give, and what is advertised.
 #[derive(Drop)]
