@@ -210,7 +210,15 @@ impl Exporter {
                 &mut self.sections,
             );
         }
-        if !pass_outbound(&mut self.route, engine, config, peer, source, prefix, &self.best) {
+        if !pass_outbound(
+            &mut self.route,
+            engine,
+            config,
+            peer,
+            source,
+            prefix,
+            &self.best,
+        ) {
             return false;
         }
         encode_route(

@@ -1,6 +1,6 @@
 // What peers of one kind are sent of the best route if no program runs. It is the same for all of them, so it is written
 // once and kept until another route is loaded.
-ghost use Rattle.std.specs.Prelude.{◌≡◌, Bool, true, false, IfOk, IsTrue};
+ghost use Rattle.std.specs.Prelude.{◌≡◌, Bool, IfOk, IsTrue};
 ghost use Rattle.std.specs.Bool.{OnTrue};
 ghost use Rattle.bgp_attr.specs.Routes.{Route};
 ghost use Rattle.xbgp_config.specs.Configs.{is_host_address};
@@ -243,9 +243,11 @@ impl Forms {
     {
         let terms = terms_of(config);
         if peer.kind == EXTERNAL {
-            self.external.write(terms, peer, wide, best, route, sections)
+            self.external
+                .write(terms, peer, wide, best, route, sections)
         } else {
-            self.internal.write(terms, peer, wide, best, route, sections)
+            self.internal
+                .write(terms, peer, wide, best, route, sections)
         }
     }
 }
