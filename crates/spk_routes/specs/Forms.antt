@@ -1,5 +1,5 @@
--- What peers of one kind are sent of a best route if no program runs at outbound and encode, and what is kept of it (for
--- the private functions of forms.rt and export.rt).
+-- What peers of one kind are sent of a best route if no program runs at outbound and encode, and what is kept of it
+-- (for the private functions of forms.rt and export.rt).
 use Rattle.std.specs.Prelude.{◌≡◌, ℕ, Bool, true, false, List, map, Option, Some, None, MatchBool, IfSome, IsSome}
 use Rattle.std.specs.Prelude.{if◌then◌else◌}
 use Rattle.bgp_attr.specs.declared.TheConstants.{MAX_CANONICAL}

@@ -1,5 +1,5 @@
-// What peers of one kind are sent of the best route if no program runs. It is the same for all of them, so it is written
-// once and kept until another route is loaded.
+// What peers of one kind are sent of the best route if no program runs. It is the same for all of them, so it is
+// written once and kept until another route is loaded.
 ghost use Rattle.std.specs.Prelude.{◌≡◌, Bool, IfOk, IsTrue};
 ghost use Rattle.std.specs.Bool.{OnTrue};
 ghost use Rattle.bgp_attr.specs.Routes.{Route};
