@@ -1,12 +1,12 @@
 //! What the routes' halves of both hosts share: all that is done to one route, however it is kept.
 //!
 //! A received section becomes a route by `read_route`, with AS numbers in four octets. `Contenders` shows the
-//! candidates of a prefix to the decision, over any kind of view, and borrows their routes. An `Exporter` is loaded with
-//! a best route, and makes of it the section that each peer is advertised, through the programs at outbound and encode,
-//! with buffers that it takes once. If no program runs there, peers of one kind, external or internal, whose sessions
-//! have AS numbers of one width are sent the same: that section is written once and kept until another route is loaded.
-//! A `PrefixSet` holds the prefixes that an UPDATE names until they are decided, and `EachPrefix` walks over prefixes
-//! that were judged. Who takes part in a route, and what the configuration says of it, is in `sides`.
+//! candidates of a prefix to the decision, over any kind of view, and borrows their routes. An `Exporter` is loaded
+//! with a best route, and makes of it the section that each peer is advertised, through the programs at outbound and
+//! encode, with buffers that it takes once. If no program runs there, peers of one kind, external or internal, whose
+//! sessions have AS numbers of one width are sent the same: that section is written once and kept until another route
+//! is loaded. A `PrefixSet` holds the prefixes that an UPDATE names until they are decided, and `EachPrefix` walks
+//! over prefixes that were judged. Who takes part in a route, and what the configuration says of it, is in `sides`.
 //!
 //! A host keeps sound routes alone (`specs/Sound`): the mandatory attributes are there, none is malformed, and the
 //! canonical section fits a message. Received routes are sound, and programs leave them sound; so deciding and
