@@ -104,13 +104,18 @@ no_length : {A : Type 0} (xs : List A) → length xs ≡ 0 → xs ≡ []
 no_length [] is = refl
 no_length (x ∷ xs) is = absurd (cc is)
 
+-- a group without prefixes may go
+pub AreSame-removed : (old new : Grouping) (s : List ℕ) → UpdatesBy section_cmp (at_section s) old new None
+    → group_at old s ≡ [] → AreSame old new
+AreSame-removed old new s updates empty t =
+    group_at-updated (λ ks. ks) old new s None updates (sym empty) t ∙ both_same (bytes_eq s t) (group_at old t)
+
 -- an empty group may go
 pub AreSame-updated : (old new : Grouping) (s : List ℕ) (group : BTreeSet Prefix)
     → UpdatesBy section_cmp (at_section s) old new None → get_by (at_section s) old ≡ Some group
     → length group.keys ≡ 0 → AreSame old new
-AreSame-updated old new s group updates there empty t =
-    group_at-updated (λ ks. ks) old new s None updates (sym (ap members there ∙ no_length group.keys empty)) t
-    ∙ both_same (bytes_eq s t) (group_at old t)
+AreSame-updated old new s group updates there empty =
+    AreSame-removed old new s updates (ap members there ∙ no_length group.keys empty)
 
 -- whether a prefix waits with a section, by its slot
 passes_not : (o : Option Slot) (t : List ℕ) → same_section (waited o) (Some t) ≡ false

@@ -1,11 +1,12 @@
 // The prefixes that wait to be announced, by the section that they wait with.
-ghost use Rattle.std.specs.Prelude.{◌≡◌, Some, None, OnOk, OnErr};
+ghost use Rattle.std.specs.Prelude.{◌≡◌, [], Some, None, OnOk, OnErr};
+ghost use Rattle.std.specs.Bool.{OnTrue};
 ghost use Rattle.std.specs.BTreeMap.{get_by};
 ghost use Rattle.std.specs.Cmp.Lexicographic.{slice_cmp};
 ghost use Rattle.std.specs.Option.{option_map};
 ghost use Rattle.std.specs.Ordering.{nat_cmp};
 ghost use Rattle.xb_words.specs.Table.{first_of as first_in};
-ghost use Rattle.out_grouped.specs.Groups.{Joins, Leaves, AreSame};
+ghost use Rattle.out_grouped.specs.Groups.{group_at, Joins, Leaves, AreSame};
 
 use crate::entry::copy_of;
 use std::alloc::{AllocError, Global};
@@ -87,9 +88,18 @@ pub(crate) fn drop_empty(groups: &mut Groups, section: &[u8])
     }
 }
 
+// The group of a section goes, which has no prefixes.
+fn drop_group(groups: &mut Groups, section: &[u8])
+    requires { group_at groups.old section.now ≡ [] }
+    ensures { AreSame groups.old groups.new }
+{
+    let _ = groups.remove(section);
+}
+
 // A prefix leaves the group of a section. Whether the group is then empty is returned.
 fn remove_from(groups: &mut Groups, section: &[u8], prefix: Prefix) -> bool
-    ensures { Leaves groups.old groups.new (Some section.now) prefix }
+    ensures left { Leaves groups.old groups.new (Some section.now) prefix }
+    ensures empty { OnTrue result (group_at groups.new section.now ≡ []) }
 {
     if let Some(group) = groups.get_mut(section) {
         let _ = group.remove(&prefix);
@@ -103,7 +113,7 @@ fn leave_one(groups: &mut Groups, section: &[u8], prefix: Prefix)
     ensures { Leaves groups.old groups.new (Some section.now) prefix }
 {
     if remove_from(groups, section, prefix) {
-        drop_empty(groups, section);
+        drop_group(groups, section);
     }
 }
 

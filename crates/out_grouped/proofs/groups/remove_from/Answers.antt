@@ -5,8 +5,8 @@ use Rattle.xb_values.specs.Prefixes.{prefix_cmp}
 use Rattle.out_grouped.proofs.GroupLemmas.{group_at-lent}
 use Rattle.out_grouped.proofs.groups.remove_from.Goals as goal
 
-pub returns-in-Some : goal.returns-in-Some
-returns-in-Some c =
+pub returns-in-Some-clause-left : goal.returns-in-Some-clause-left
+returns-in-Some-clause-left c =
     group_at-lent (remove_key (is_at (prefix_cmp c.args.prefix))) c.args.groups.now
     (c.get_mut.follows.lender c.remove.new.self) c.args.section.now c.in-Some.group.now c.remove.new.self
     (sym c.in-Some.ensures.value) c.remove.ensures.keys (c.get_mut.follows.holds c.remove.new.self).3
