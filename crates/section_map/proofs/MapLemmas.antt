@@ -1,6 +1,9 @@
 -- What is found for a section, and what a change of the first sections or of the rest makes of it.
 use Rattle.std.proofs.Common.{◌≡◌, ◌≢◌, ◌⊎◌, ℕ, List, [], ◌∷◌, Bool, Option, Some, None, is_some, IsSome, true, false}
 use Rattle.std.proofs.Common.{cond, inl, inr, Vec, refl, sym, ap, ◌∙◌, subst, rules}
+use Rattle.std.specs.Borrow.{MutBor}
+use Rattle.std.specs.Option.{OnSome, option_copied_mut, option_map}
+use Rattle.std.specs.Prelude.{not}
 use Rattle.std.specs.BTreeMap.{BTreeMap, IsUnchanged, Updates, UpdatesBy, get, get_by, is_at}
 use Rattle.std.specs.Cmp.{eq_by_cmp_equiv}
 use Rattle.std.specs.Cmp.Lexicographic.{slice_cmp}
@@ -54,6 +57,16 @@ pub none_found : {A : Type 0} (x : Option A) → is_some x ≡ false → x ≡ N
 none_found None h = refl
 none_found (Some a) h = absurd (cc h)
 
+pub is_some_from : {A : Type 0} (o : Option A) (x : A) → o ≡ Some x → IsSome o
+is_some_from None x is = absurd (cc is)
+is_some_from (Some y) x is = search rules
+
+-- whether a value was found that is lent
+pub found_not : {A B : Type 0} (f : A → B) (x : Option A) (y : Option B) (b : Bool) → option_map f x ≡ y
+    → is_some x ≡ not b → is_some y ≡ not b
+found_not f None y b is some = ap is_some (sym is) ∙ some
+found_not f (Some a) y b is some = ap is_some (sym is) ∙ some
+
 module _ {V : Type 0} where
   -- the first section of a sum is this section, or another
   pub value_if-same : (slot : Option (First V)) (first : First V) (s : List ℕ) → slot ≡ Some first
@@ -66,13 +79,19 @@ module _ {V : Type 0} where
   value_if-other first s apart =
       ap (λ b. cond b (Some first.value) None) (apart_bytes first.section.items s apart)
 
-  -- it is this section if a value is found
-  pub value_if-first : (first : First V) (s : List ℕ) → is_some (value_if (Some first) s) ≡ true
-      → first.section.items ≡ s
-  value_if-first first s found = elim (sections_differ first.section.items s) [
+  -- it is this section if a value is found, and then no other
+  pub value_if-first : (slot : Option (First V)) (first : First V) (s : List ℕ) → slot ≡ Some first
+      → is_some (value_if slot s) ≡ true → first.section.items ≡ s
+  value_if-first slot first s is found = elim (sections_differ first.section.items s) [
     | inl same ↦ same
-    | inr apart ↦ absurd (cc (ap is_some (value_if-other first s apart), found))
+    | inr apart ↦
+        absurd (cc (ap is_some (ap (λ slot. value_if slot s) is ∙ value_if-other first s apart), found))
   ]
+
+  pub value_if-only : (slot : Option (First V)) (first : First V) (s q : List ℕ) → slot ≡ Some first
+      → first.section.items ≡ s → q ≢ s → value_if slot q ≡ None
+  value_if-only slot first s q is same apart =
+      ap (λ slot. value_if slot q) is ∙ value_if-other first q (λ also. apart (sym also ∙ same))
 
   value_or-none : (x y : Option V) → value_or x y ≡ None → x ≡ None
   value_or-none None y none = refl
@@ -184,6 +203,16 @@ module _ {V : Type 0} where
     pub value_if-free : (s : List ℕ) → at_section old s ≡ None → value_if (get nat_cmp old.firsts (sum_of s)) s ≡ None
     unfolding at_section
     value_if-free s free = value_or-none _ _ free
+
+    -- what is written through a value of the rest
+    pub ChangesAt-lent : (s : List ℕ) (w : V) (lent : Option (MutBor V))
+        → value_if (get nat_cmp old.firsts (sum_of s)) s ≡ None → new.firsts ≡ old.firsts
+        → option_copied_mut lent ≡ get_by (compared s) old.rest
+        → (IsSome (get_by (compared s) old.rest) → UpdatesBy section_cmp (compared s) old.rest new.rest (Some w))
+        → OnSome lent (ChangesAt old new s (Some w))
+    ChangesAt-lent s w None none firsts there updates = tt
+    ChangesAt-lent s w (Some lent) none firsts there updates =
+        ChangesAt-rest s w none firsts (updates (is_some_from _ lent.now (sym there)))
 
   -- no section has a value in a map without entries
   pub at_section-empty : (map : SectionMap V) → map.firsts.entries ≡ [] → map.rest.entries ≡ [] → (s : List ℕ)
