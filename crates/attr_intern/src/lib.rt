@@ -18,10 +18,8 @@
 #![tactic(auto)]
 
 mod id;
-mod ids;
 mod pool;
 mod record;
-mod sum;
 
 pub use id::RecordId;
 pub use pool::Pool;
