@@ -1,6 +1,6 @@
 -- What is found for a section, and what a change of the first sections or of the rest makes of it.
-use Rattle.std.proofs.Common.{◌≡◌, ◌≢◌, ◌⊎◌, ℕ, List, [], ◌∷◌, Bool, Option, Some, None, is_some, IsSome, true, false}
-use Rattle.std.proofs.Common.{cond, inl, inr, Vec, refl, sym, ap, ◌∙◌, subst, rules}
+use Rattle.std.proofs.Common.{◌≡◌, ◌≢◌, ◌⊎◌, ℕ, List, [], Bool, Option, Some, None, is_some, IsSome, true, false}
+use Rattle.std.proofs.Common.{cond, inl, inr, Vec, refl, sym, ap, ◌∙◌, rules}
 use Rattle.std.specs.Borrow.{MutBor}
 use Rattle.std.specs.Option.{OnSome, option_copied_mut, option_map}
 use Rattle.std.specs.Prelude.{not}
@@ -79,7 +79,7 @@ module _ {V : Type 0} where
   value_if-other first s apart =
       ap (λ b. cond b (Some first.value) None) (apart_bytes first.section.items s apart)
 
-  -- it is this section if a value is found, and then no other
+  -- it is this section if a value is found
   pub value_if-first : (slot : Option (First V)) (first : First V) (s : List ℕ) → slot ≡ Some first
       → is_some (value_if slot s) ≡ true → first.section.items ≡ s
   value_if-first slot first s is found = elim (sections_differ first.section.items s) [
@@ -88,6 +88,7 @@ module _ {V : Type 0} where
         absurd (cc (ap is_some (ap (λ slot. value_if slot s) is ∙ value_if-other first s apart), found))
   ]
 
+  -- and then no other
   pub value_if-only : (slot : Option (First V)) (first : First V) (s q : List ℕ) → slot ≡ Some first
       → first.section.items ≡ s → q ≢ s → value_if slot q ≡ None
   value_if-only slot first s q is same apart =
