@@ -160,13 +160,7 @@ impl Pool {
             add_owner(&mut self.shared, key);
             return Ok(RecordId::new(key));
         }
-        let key = add_record(
-            self.alloc,
-            view,
-            section,
-            &mut self.shared,
-            &mut self.ids,
-        )?;
+        let key = add_record(self.alloc, view, section, &mut self.shared, &mut self.ids)?;
         Ok(RecordId::new(key))
     }
 

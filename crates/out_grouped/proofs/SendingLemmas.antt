@@ -5,7 +5,7 @@ use Rattle.std.proofs.Common.{nat_lt, ◌||◌, ◌&&◌, arith, length-append, 
 use Rattle.std.proofs.Common.{IsTrue, cond}
 use Rattle.std.specs.BTreeMap.{is_at}
 use Rattle.std.specs.BTreeSet.{BTreeSet}
-use Rattle.std.specs.Option.{IfSome, IsSome, option_and_then}
+use Rattle.std.specs.Option.{IfSome, option_and_then}
 use Rattle.std.specs.Set.{remove_key}
 use Rattle.std.specs.Str.{bytes_eq}
 use Rattle.std.proofs.lemmas.Bool.{cases_Bool, cases_lt, lt-ltb, le-ltb}

@@ -1,13 +1,12 @@
 // A map from sections to values.
 ghost use Rattle.std.specs.Prelude.{◌≡◌, ◌≢◌, ℕ, List, Some, None, OnOk, OnErr};
-ghost use Rattle.std.specs.BTreeMap.{get, get_by};
+ghost use Rattle.std.specs.BTreeMap.{get};
 ghost use Rattle.std.specs.Borrow.{sem};
-ghost use Rattle.std.specs.Cmp.Lexicographic.{slice_cmp};
 ghost use Rattle.std.specs.Option.{option_map, option_copied_mut};
 ghost use Rattle.std.specs.Ordering.{nat_cmp};
 ghost use Rattle.section_map.specs.Lends.{lends_at};
 ghost use Rattle.section_map.specs.Sums.{sum_of};
-ghost use Rattle.section_map.specs.Sections.{ChangesAt, SameSections, value_if, at_section};
+ghost use Rattle.section_map.specs.Sections.{ChangesAt, SameSections, at_section, value_if};
 
 use crate::sum::sum_of;
 use std::alloc::{AllocError, Global};
