@@ -16,6 +16,7 @@ use Rattle.spk_model.specs.Routing.{Chosen as Best}
 use Rattle.spk_routes.specs.Sound.{IsSound}
 use Rattle.attr_intern.specs.Pools.{Records, Owned, interned, record_at, released, route_at, ArePooled}
 use Rattle.out_grouped.specs.Told.{Told}
+use Rattle.out_grouped.proofs.SlotLemmas.{with_value-same}
 use Rattle.attr_intern.proofs.PoolLemmas.{route_at-interned}
 use Rattle.host_interned.specs.declared.chosen.Chosen.{Chosen}
 use Rattle.host_interned.specs.declared.tables.PeerTables.{PeerTables}
@@ -23,7 +24,7 @@ use Rattle.host_interned.specs.Ribs.{best_by, best_from, given_up, meant, rib_of
 use Rattle.host_interned.specs.Ribs.{same_id, tables_by, tables_in, times_held, times_sent, with_best, with_peer}
 use Rattle.host_interned.specs.Ribs.{living_by, living_of, sources_by, sources_of, with_sent, AreOwned, AreSound}
 use Rattle.host_interned.specs.Ribs.{IsKept, RibView, Shows}
-use Rattle.host_interned.proofs.MappedLemmas.{mapped-with_value, mapped-without, value_at-mapped}
+use Rattle.host_interned.proofs.MappedLemmas.{mapped-with_value, mapped-without, rising-mapped, value_at-mapped}
 use Rattle.host_interned.proofs.OwnerLemmas.{lives, owned_interned}
 use Rattle.host_interned.proofs.RibLemmas.{shows_same}
 use Rattle.host_interned.proofs.HeldLemmas.{gives_up, held-sent, held-set, held-with_chosen, of_value}
@@ -495,6 +496,23 @@ module _ (rs : Records) (own : ℕ) (cs : List (Prefix × Chosen)) (ps : List Pe
     source_means : route_from v.own v.tables source prefix ≡ Some (meant rs id)
     source_means =
         source_route.1 ∙ ap (λ (x : Option Route). Some (route_or x)) (sym source_route.2)
+
+    -- a source's route that is best already stays best
+    pub stays_best : value_at prefix_cmp v.chosen prefix ≡ Some (record { source = source; «record» = id })
+        → Shows v.own (with_best v.best prefix (best_from v.own v.tables source prefix)) v.tables v
+    stays_best there =
+        let best : Best = record { source = source; route = meant rs id } in
+        let here : value_at prefix_cmp cs prefix ≡ Some (record { source = source; «record» = id }) =
+        ap (λ (x : RibView). value_at prefix_cmp x.chosen prefix) is ∙ there in
+        let same : with_value prefix_cmp (best_by rs cs) prefix best ≡ best_by rs cs =
+        with_value-same (best_by rs cs) prefix best (rising-mapped prefix_cmp (best_of_id rs) cs kept.rising)
+        (value_at-mapped prefix_cmp (best_of_id rs) cs prefix ∙ ap (option_map (best_of_id rs)) here) in
+        record {
+          own_is = refl;
+          best_is = sym (subst (λ (x : RibView). with_value prefix_cmp x.best prefix best ≡ x.best) is same)
+              ∙ best_is_from v.own v.best v.tables source prefix (meant rs id) source_means;
+          tables_are = refl;
+        }
 
     -- a source's route becomes best, by the result
     pub sets_best : (result : Result (Unit {0}) AllocError) (new last : Records) (after : List (Prefix × Chosen))

@@ -1,6 +1,6 @@
 // The routes of a speaker, as ids of shared records.
 ghost use Rattle.std.specs.Prelude.{◌≡◌, ◌<◌, ◌≤◌, ◌==◌, ◌++◌, ◌↔◌, [], length, replicate, flat_map, is_some, IfOk};
-ghost use Rattle.std.specs.Prelude.{Some, IfSome, IsSome, IsFalse, OnOk, OnErr};
+ghost use Rattle.std.specs.Prelude.{Some, IfSome, IsSome, IsFalse, IsTrue, OnOk, OnErr};
 ghost use Rattle.std.specs.Bool.{OnTrue};
 ghost use Rattle.std.specs.List.{AllByRecursion};
 ghost use Rattle.std.specs.Map.{keys_of};
@@ -157,6 +157,17 @@ impl Rib {
         find(&self.peers[source as usize - 1].sent, prefix).copied()
     }
 
+    // Whether a prefix has this best route.
+    fn is_best(&self, prefix: Prefix, source: u32, id: RecordId) -> bool
+        ensures { IsTrue result
+            ↔ (value_at prefix_cmp self.now.chosen prefix ≡ Some (record { source = source; «record» = id })) }
+    {
+        match find(&self.best, prefix) {
+            Some(best) => best.source == source && best.record == id,
+            None => false,
+        }
+    }
+
     /// The route of a source at a prefix, which it has, becomes best. The error is want of memory; then nothing
     /// changed.
     pub(crate) fn set_best(&mut self, prefix: Prefix, source: u32) -> Result<(), AllocError>
@@ -170,6 +181,9 @@ impl Rib {
         let Some(record) = self.id_from(source, prefix) else {
             return Ok(());
         };
+        if self.is_best(prefix, source, record) {
+            return Ok(());
+        }
         self.records.share(record);
         let chosen = Chosen { source, record };
         put_chosen(&mut self.records, &mut self.best, prefix, chosen)

@@ -206,11 +206,6 @@ set_value-with_value (e ∷ es) p old new rising there = by_ordering (prefix_cmp
     (λ g. rw g (ap (λ (l : List (Prefix × _)). e ∷ l)
     (set_value-with_value es p old new (tail_of e es rising) (rw g at there))))
 
-pub set_value-same : {X : Type 0} (es : List (Prefix × X)) (p : Prefix) (x : X) → IsRising prefix_cmp es
-    → value_at prefix_cmp es p ≡ Some x → set_value (is_at (prefix_cmp p)) es x ≡ es
-set_value-same es p x rising there =
-    set_value-with_value es p x x rising there ∙ with_value-same es p x rising there
-
 -- a slot that was told stays when it is advertised no longer
 pub without_adv-told : (es : Slots) (p : Prefix) (told : Option (List ℕ)) → is_some told ≡ true
     → with_value prefix_cmp es p (record { adv = None; told = told }) ≡ without_adv es p told

@@ -1,23 +1,21 @@
 // The prefixes that wait to be announced, by the section that they wait with.
 ghost use Rattle.std.specs.Prelude.{◌≡◌, [], Some, None, OnOk, OnErr};
 ghost use Rattle.std.specs.Bool.{OnTrue};
-ghost use Rattle.std.specs.BTreeMap.{get_by};
-ghost use Rattle.std.specs.Cmp.Lexicographic.{slice_cmp};
 ghost use Rattle.std.specs.Option.{option_map};
-ghost use Rattle.std.specs.Ordering.{nat_cmp};
 ghost use Rattle.xb_words.specs.Table.{first_of as first_in};
+ghost use Rattle.section_map.specs.Sections.{at_section};
 ghost use Rattle.out_grouped.specs.Groups.{group_at, Joins, Leaves, AreSame};
 
-use crate::entry::copy_of;
+use section_map::SectionMap;
 use std::alloc::{AllocError, Global};
-use std::collections::{BTreeMap, BTreeSet};
+use std::collections::BTreeSet;
 use xb_values::Prefix;
 
 /// The prefixes that wait with one section.
 pub(crate) type Group = BTreeSet<Prefix>;
 
 /// A group for each section with which any prefix waits.
-pub(crate) type Groups = BTreeMap<Vec<u8>, Group>;
+pub(crate) type Groups = SectionMap<Group>;
 
 /// The first prefix of a group.
 pub(crate) fn first_of(group: &Group) -> Option<Prefix>
@@ -33,19 +31,17 @@ fn begin(
     section: &[u8],
     prefix: Prefix,
 ) -> Result<(), AllocError>
-    requires { get_by (λ k. slice_cmp nat_cmp section.now k.items) groups.old ≡ None }
+    requires { at_section groups.old section.now ≡ None }
     ensures ok { OnOk result (Joins groups.old groups.new (Some section.now) prefix) }
     ensures err { OnErr result (AreSame groups.old groups.new) }
 {
-    let section = copy_of(alloc, section)?;
     let mut group = BTreeSet::new(alloc);
     let _ = group.insert(prefix)?;
-    let _ = groups.insert(section, group)?;
-    Ok(())
+    groups.insert(section, group)
 }
 
-// A prefix joins the group of a section. The error is want of memory; then nothing changed.
-fn join_one(
+/// A prefix joins the group of a section. The error is want of memory; then nothing changed.
+pub(crate) fn join(
     groups: &mut Groups,
     alloc: Global,
     section: &[u8],
@@ -61,35 +57,8 @@ fn join_one(
     Ok(())
 }
 
-/// A prefix joins the group of a section, if one is given. The error is want of memory; then nothing changed.
-pub(crate) fn join(
-    groups: &mut Groups,
-    alloc: Global,
-    section: Option<&[u8]>,
-    prefix: Prefix,
-) -> Result<(), AllocError>
-    ensures ok { OnOk result (Joins groups.old groups.new (option_map (λ s. s.now) section.entry) prefix) }
-    ensures err { OnErr result (AreSame groups.old groups.new) }
-{
-    match section {
-        Some(section) => join_one(groups, alloc, section, prefix),
-        None => Ok(()),
-    }
-}
-
-/// The group of a section goes if it is empty.
-pub(crate) fn drop_empty(groups: &mut Groups, section: &[u8])
-    ensures { AreSame groups.old groups.new }
-{
-    if let Some(group) = groups.get(section) {
-        if group.is_empty() {
-            let _ = groups.remove(section);
-        }
-    }
-}
-
-// The group of a section goes, which has no prefixes.
-fn drop_group(groups: &mut Groups, section: &[u8])
+/// The group of a section goes, which has no prefixes.
+pub(crate) fn drop_group(groups: &mut Groups, section: &[u8])
     requires { group_at groups.old section.now ≡ [] }
     ensures { AreSame groups.old groups.new }
 {
@@ -108,8 +77,8 @@ fn remove_from(groups: &mut Groups, section: &[u8], prefix: Prefix) -> bool
     false
 }
 
-// A prefix leaves the group of a section.
-fn leave_one(groups: &mut Groups, section: &[u8], prefix: Prefix)
+/// A prefix leaves the group of a section.
+pub(crate) fn leave_one(groups: &mut Groups, section: &[u8], prefix: Prefix)
     ensures { Leaves groups.old groups.new (Some section.now) prefix }
 {
     if remove_from(groups, section, prefix) {
@@ -123,14 +92,5 @@ pub(crate) fn leave(groups: &mut Groups, waited: Option<Vec<u8>>, prefix: Prefix
 {
     if let Some(section) = waited {
         leave_one(groups, &section, prefix);
-    }
-}
-
-/// A prefix leaves the group that it joined, if it did.
-pub(crate) fn undo_join(groups: &mut Groups, joined: Option<&[u8]>, prefix: Prefix)
-    ensures { Leaves groups.old groups.new (option_map (λ s. s.now) joined.entry) prefix }
-{
-    if let Some(section) = joined {
-        leave_one(groups, section, prefix);
     }
 }

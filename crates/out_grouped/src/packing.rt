@@ -1,5 +1,6 @@
 // The loops that pack a message.
 ghost use Rattle.std.specs.Prelude.{◌≡◌, ◌≤◌, ℕ, List, [], false, Some};
+ghost use Rattle.std.specs.Bool.{OnTrue};
 ghost use Rattle.std.specs.Str.{bytes_eq};
 ghost use Rattle.xb_words.specs.Table.{first_of as first_in};
 ghost use Rattle.xb_values.specs.Prefixes.{Prefix, prefix_cmp};
@@ -10,11 +11,11 @@ ghost use Rattle.bgp_write.specs.Pending.{section_of};
 ghost use Rattle.bgp_write.specs.Written.{Replaces};
 ghost use Rattle.out_grouped.specs.Slots.{adv_in, told_in, is_fresh, is_gone, waits_with, keys_where, IsSound, Keeps};
 ghost use Rattle.out_grouped.specs.Waits.{Has};
-ghost use Rattle.out_grouped.specs.Groups.{IsGrouped};
+ghost use Rattle.out_grouped.specs.Groups.{group_at, IsGrouped};
 ghost use Rattle.out_grouped.specs.Sending.{announcement_from, formed_by, withdrawal_from};
 
 use crate::entries::{Entries, forget, next_gone, section_at, tell};
-use crate::groups::{Group, Groups, drop_empty, first_of};
+use crate::groups::{Group, Groups, drop_group, first_of};
 use crate::waiting::Waiting;
 use bgp_write::Packer;
 use xb_values::{Buf, Prefix};
@@ -91,18 +92,19 @@ fn pack_group(
         }
         tell(entries, prefix);
         fresh.set(prefix, false);
-        let _ = group.remove(&prefix);
+        let _ = group.pop_first();
     }
 }
 
-// Packs the group of the section that is announced, with which a prefix waits.
+// Packs the group of the section that is announced, with which a prefix waits. Whether the group is then empty is
+// returned.
 fn pack_announcement(
     entries: &mut Entries,
     fresh: &mut Waiting,
     groups: &mut Groups,
     packer: &mut Packer<'_>,
     first: Prefix,
-)
+) -> bool
     requires sound { IsSound entries.old.entries }
     requires waits { Has fresh.old (keys_where is_fresh entries.old.entries) }
     requires groups { IsGrouped groups.old entries.old.entries }
@@ -112,6 +114,7 @@ fn pack_announcement(
     ensures gone { keys_where is_gone entries.new.entries ≡ keys_where is_gone entries.old.entries }
     ensures waits { Has fresh.new (keys_where is_fresh entries.new.entries) }
     ensures groups { IsGrouped groups.new entries.new.entries }
+    ensures empty { OnTrue result (group_at groups.new (section_of (adv_in entries.old.entries) first) ≡ []) }
     ensures formed { formed_by (packed_so_far packer.new) entries.new.entries
         ≡ announcement_from (section_of (adv_in entries.old.entries) first) [] entries.old.entries }
     ensures same_reference { reference_of packer.new ≡ reference_of packer.old }
@@ -119,7 +122,9 @@ fn pack_announcement(
 {
     if let Some(group) = groups.get_mut(section_at(entries, first)) {
         pack_group(entries, fresh, group, packer);
+        return group.is_empty();
     }
+    false
 }
 
 /// Writes the announcement of the prefixes that wait with the section of a prefix.
@@ -147,7 +152,9 @@ pub(crate) fn announce(
     ensures message { IsMessage out.new.octets }
 {
     let mut packer = Packer::announce(out, section_at(entries, first));
-    pack_announcement(entries, fresh, groups, &mut packer, first);
+    let emptied = pack_announcement(entries, fresh, groups, &mut packer, first);
     packer.finish();
-    drop_empty(groups, section_at(entries, first));
+    if emptied {
+        drop_group(groups, section_at(entries, first));
+    }
 }

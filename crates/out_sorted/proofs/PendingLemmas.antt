@@ -109,7 +109,8 @@ filter-keys es (f ∷ fs) rising all =
     value_at-part (λ s. s.adv) es f.0 rising ∙ ap (option_and_then (λ (s : Slot). s.adv)) all.0 in
     let told : value_at prefix_cmp (told_in es) f.0 ≡ f.1.told =
     value_at-part (λ s. s.told) es f.0 rising ∙ ap (option_and_then (λ (s : Slot). s.told)) all.0 in
-    let same : differs (adv_in es) (told_in es) f.0 ≡ waits f.1 = ap (λ o. not (same_section o (value_at prefix_cmp (told_in es) f.0))) adv
+    let same : differs (adv_in es) (told_in es) f.0 ≡ waits f.1 =
+    ap (λ o. not (same_section o (value_at prefix_cmp (told_in es) f.0))) adv
     ∙ ap (λ o. not (same_section f.1.adv o)) told in
     elim (cases_Bool (waits f.1)) [
       | inl wait ↦ rw (same, wait) (ap (λ (l : List Prefix). f.0 ∷ l) (filter-keys es fs rising all.1))

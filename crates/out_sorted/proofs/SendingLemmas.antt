@@ -2,32 +2,33 @@
 use Rattle.std.proofs.Common.{◌≡◌, ℕ, ◌+◌, ◌-◌, ◌<◌, ◌≤◌, true, false, inl, inr, List, [], ◌∷◌, ◌++◌, Option, Some}
 use Rattle.std.proofs.Common.{None, refl, sym, ◌∙◌, ap, subst, length, fold, flat_map, take_while, is_some, is_none}
 use Rattle.std.proofs.Common.{not, nat_lt, ◌||◌, arith, length-append, append_assoc, append-nil, if◌then◌else◌, IsTrue}
-use Rattle.std.proofs.Common.{cond, Bool}
+use Rattle.std.proofs.Common.{cond, Bool, MatchBool}
 use Rattle.std.specs.Option.{IfSome, option_and_then}
 use Rattle.std.specs.Str.{bytes_eq}
 use Rattle.std.proofs.lemmas.Bool.{cases_Bool, cases_lt, and_parts, lt-ltb, le-ltb}
+use Rattle.std.proofs.lemmas.List.{length-take}
 use Rattle.std.proofs.lemmas.List.Sums.{take_while-cons}
 use Rattle.std.proofs.lemmas.Slice.Eq.{bytes_eq-Decides}
+use Rattle.xb_words.specs.Octets.{four_octets}
 use Rattle.xb_words.specs.Table.{value_at, with_value, without, first_of, IsRising}
-use Rattle.xb_words.proofs.TableLemmas.{AllByRecursion-without, IsRising-without, value_at-some}
-use Rattle.xb_values.specs.Prefixes.{Prefix, Sections, prefix_cmp, prefix_octets}
-use Rattle.xb_values.proofs.PrefixLemmas.{prefix_total}
+use Rattle.xb_words.proofs.TableLemmas.{value_at-some}
+use Rattle.xb_values.specs.Prefixes.{Prefix, Sections, octets_for, prefix_cmp, prefix_octets}
 use Rattle.xb_wire.specs.Messages.{update_message}
 use Rattle.xb_wire.specs.declared.numbers.TheConstants.{EMPTY_UPDATE, MAX_MESSAGE, MAX_SECTION}
 use Rattle.bgp_write.specs.Packings.{Packed, packed_message, with_prefix, withdrawing, announcing}
 use Rattle.bgp_write.specs.Pending.{Formed, fitting, has_section, same_section, section_of}
 use Rattle.bgp_write.proofs.MessageLemmas.{length-packed_message}
 use Rattle.out_sorted.specs.Slots.{Slot, Slots, IsSlot, IsSound, Keeps, adv_in, told_in, retold, keys_where, is_gone}
-use Rattle.out_sorted.specs.Slots.{is_fresh}
+use Rattle.out_sorted.specs.Slots.{is_fresh, passes}
 use Rattle.out_sorted.specs.Waits.{Has}
 use Rattle.out_sorted.specs.declared.waiting.Waiting.{Waiting}
 use Rattle.out_sorted.specs.Sending.{announcement_from, announcement_of, formed_by, withdrawal_from, withdrawal_of}
 use Rattle.out_sorted.specs.Sending.{to_announce, to_withdraw}
-use Rattle.out_sorted.proofs.SlotLemmas.{value_at-part, part-with_value-some, part-with_value-same}
-use Rattle.out_sorted.proofs.SlotLemmas.{part-without, part-without-same, first-where, keys_where-with_value}
-use Rattle.out_sorted.proofs.SlotLemmas.{keys_where-without, keys_where-without-same, keys_where-with_value-same}
+use Rattle.out_sorted.proofs.SlotLemmas.{value_at-part, part-with_value-some, part-with_slot-same}
+use Rattle.out_sorted.proofs.SlotLemmas.{part-without, first-where, keys_where-with_value}
+use Rattle.out_sorted.proofs.SlotLemmas.{keys_where-without, keys_where-with_slot}
 use Rattle.out_sorted.proofs.SlotLemmas.{section_of-some}
-use Rattle.out_sorted.proofs.ChangeLemmas.{written_is_sound}
+use Rattle.out_sorted.proofs.ChangeLemmas.{without_is_sound, written_is_sound}
 use Rattle.out_sorted.proofs.PendingLemmas.{no_first, some_first}
 
 -- a prefix that waits to be withdrawn is not advertised
@@ -51,15 +52,11 @@ pub keeps-without : (old es new : Slots) (p : Prefix) → Keeps is_fresh old es
 keeps-without old es new p keeps is done =
     let f = first-where is_gone es p keeps.sound.rising is in
     let none = ap (option_and_then (λ (s : Slot). s.adv)) f.1 ∙ gone_is f.0 f.2 in
-    let not_fresh : IfSome (value_at prefix_cmp es p) (λ s. is_fresh s ≡ false) =
-    subst (λ (o : Option Slot). IfSome o (λ s. is_fresh s ≡ false)) (sym f.1) (gone-not_fresh f.0 f.2) in
+    let not_fresh = ap (passes is_fresh) f.1 ∙ gone-not_fresh f.0 f.2 in
     let all : Keeps is_fresh old (without prefix_cmp es p) = record {
-      sound = record {
-        rising = IsRising-without prefix_cmp prefix_total es p keeps.sound.rising;
-        slots = AllByRecursion-without prefix_cmp IsSlot es p keeps.sound.slots;
-      };
-      adv = part-without-same (λ s. s.adv) es p keeps.sound.rising none ∙ keeps.adv;
-      others = keys_where-without-same is_fresh es p keeps.sound.rising not_fresh ∙ keeps.others;
+      sound = without_is_sound es p keeps.sound;
+      adv = part-with_slot-same (λ s. s.adv) es p None keeps.sound.rising none ∙ keeps.adv;
+      others = keys_where-with_slot is_fresh es p None false false keeps.sound.rising not_fresh refl ∙ keeps.others;
     } in
     subst (λ (l : Slots). Keeps is_fresh old l) (sym done) all
 
@@ -267,13 +264,12 @@ keeps-retold old es new p keeps is done =
     let held = value_at-some prefix_cmp IsSlot es p s keeps.sound.slots f.2 in
     let some = some_slot s.adv f.1 f.3 in
     let gone : is_gone s ≡ false = ap is_none f.3 in
-    let here : IfSome (value_at prefix_cmp es p) (λ r. is_gone r ≡ false) =
-    subst (λ (o : Option Slot). IfSome o (λ r. is_gone r ≡ false)) (sym f.2) gone in
+    let here = ap (passes is_gone) f.2 ∙ gone in
     let all : Keeps is_gone old (with_value prefix_cmp es p slot) = record {
       sound = written_is_sound es p slot keeps.sound (λ q. retold_is_slot (held.0, s) q held.2 some);
-      adv = part-with_value-same (λ s. s.adv) es p slot keeps.sound.rising
+      adv = part-with_slot-same (λ s. s.adv) es p (Some slot) keeps.sound.rising
           (ap (option_and_then (λ (s : Slot). s.adv)) f.2) ∙ keeps.adv;
-      others = keys_where-with_value-same is_gone es p slot keeps.sound.rising here gone ∙ keeps.others;
+      others = keys_where-with_slot is_gone es p (Some slot) false false keeps.sound.rising here gone ∙ keeps.others;
     } in
     subst (λ (l : Slots). Keeps is_gone old l) (sym (done ∙ retold-some es p s f.2)) all
 
@@ -327,7 +323,7 @@ adv-retold : (es : Slots) (p : Prefix) → IsRising prefix_cmp es → first_of (
 adv-retold es p rising is =
     let f = first-fresh es p rising is in
     ap adv_in (retold-some es p f.0 f.2)
-    ∙ part-with_value-same (λ s. s.adv) es p (record f.0 { told = f.0.adv }) rising
+    ∙ part-with_slot-same (λ s. s.adv) es p (Some (record f.0 { told = f.0.adv })) rising
     (ap (option_and_then (λ (s : Slot). s.adv)) f.2)
 
 abbrev announcement_with : List ℕ → List Prefix → List ℕ → Sections → Formed
@@ -430,15 +426,66 @@ shape-announcing old new s p shape more =
     more ∙ ap (λ (x : Packed). with_prefix x p) shape
     ∙ ap (λ l. record (announcing s) { prefixes = l }) (sym (ap (λ (x : Packed). x.prefixes) more))
 
--- a loop that announces, after one prefix more
-pub more_announced : (old es new : Slots) (p : Prefix) (s : List ℕ) (packed after : Packed) → Keeps is_gone old es
-    → first_of (keys_where is_fresh es) ≡ Some p
+-- what is announced in all stays, after one prefix more
+pub more_announced : (es new : Slots) (p : Prefix) (s : List ℕ) (packed after : Packed) (f : Formed)
+    → IsRising prefix_cmp es → first_of (keys_where is_fresh es) ≡ Some p
     → packed ≡ record (announcing s) { prefixes = packed.prefixes }
-    → announcement_from s packed.prefixes es ≡ announcement_from s [] old
+    → announcement_from s packed.prefixes es ≡ f
     → bytes_eq (section_of (adv_in es) p) s ≡ true
     → length (packed_message (with_prefix packed p)) ≤ MAX_MESSAGE → after ≡ with_prefix packed p
     → new ≡ retold es p (value_at prefix_cmp es p)
-    → announcement_from s after.prefixes new ≡ announcement_from s [] old
-more_announced old es new p s packed after keeps is shape whole goes fits more done =
+    → announcement_from s after.prefixes new ≡ f
+more_announced es new p s packed after f rising is shape whole goes fits more done =
     ap (λ (x : Packed). announcement_from s x.prefixes new) more
-    ∙ sym (announcement_from-more es new p s packed shape keeps.sound.rising is goes fits done) ∙ whole
+    ∙ sym (announcement_from-more es new p s packed shape rising is goes fits done) ∙ whole
+
+-- what two steps keep
+pub keeps-then : (waits : Slot → Bool) (old es new : Slots) → Keeps waits old es → Keeps waits es new
+    → Keeps waits old new
+keeps-then waits old es new one two =
+    record { sound = two.sound; adv = two.adv ∙ one.adv; others = two.others ∙ one.others }
+
+-- beside the section of the first prefix there is room for it
+first-fits : (s : List ℕ) (p : Prefix) → length s ≤ MAX_SECTION
+    → length (packed_message (with_prefix (announcing s) p)) ≤ MAX_MESSAGE
+first-fits s p short =
+    omega (
+      arith,
+      length-packed_message (with_prefix (announcing s) p),
+      short,
+      length-take (octets_for p.len) (four_octets p.addr),
+    )
+
+pushed : {P : Type 0} (Q : Type 0) (b : Bool) → b ≡ true → MatchBool b P Q → P
+pushed Q true is holds = holds
+pushed Q false is holds = absurd (cc is)
+
+-- what there is when the first prefix is announced
+pub record IsBegun (es new : Slots) (p : Prefix) (packed : Packed) : Type 0 where
+  pub keeps : Keeps is_gone es new
+  pub shape : packed ≡ record (announcing (section_of (adv_in new) p)) { prefixes = packed.prefixes }
+  pub whole : announcement_from (section_of (adv_in new) p) packed.prefixes new
+      ≡ announcement_from (section_of (adv_in es) p) [] es
+
+pub begun : (es new : Slots) (p : Prefix) (packed after : Packed) (fits : Bool) → IsSound es
+    → first_of (keys_where is_fresh es) ≡ Some p → packed ≡ announcing (section_of (adv_in es) p)
+    → (length (packed_message (with_prefix packed p)) ≤ MAX_MESSAGE → fits ≡ true)
+    → MatchBool fits (after ≡ with_prefix packed p) (after ≡ packed)
+    → new ≡ retold es p (value_at prefix_cmp es p) → IsBegun es new p after
+begun es new p packed after fits sound is empty room grown done =
+    let s = section_of (adv_in es) p in
+    let keeps = keeps-retold es es new p (keeps-itself is_gone es sound) is done in
+    let short : length (packed_message (with_prefix packed p)) ≤ MAX_MESSAGE =
+    subst (λ (x : Packed). length (packed_message (with_prefix x p)) ≤ MAX_MESSAGE) (sym empty)
+    (first-fits s p (section-short es p sound is)) in
+    let more = pushed _ fits (room short) grown in
+    let shape : packed ≡ record (announcing s) { prefixes = packed.prefixes } =
+    empty ∙ ap (λ l. record (announcing s) { prefixes = l }) (sym (ap (λ (x : Packed). x.prefixes) empty)) in
+    record {
+      keeps = keeps;
+      shape = shape-announcing packed after s p shape more
+          ∙ ap (λ a. record (announcing (section_of a p)) { prefixes = after.prefixes }) (sym keeps.adv);
+      whole = ap (λ a. announcement_from (section_of a p) after.prefixes new) keeps.adv
+          ∙ more_announced es new p s packed after (announcement_from s [] es) sound.rising is shape
+          (ap (λ (x : Packed). announcement_from s x.prefixes es) empty) (bytes_eq-itself s) short more done;
+    }

@@ -6,66 +6,82 @@ ghost use Rattle.std.specs.Map.Iter.{deref_pair};
 ghost use Rattle.std.specs.Option.{option_and_then, option_map};
 ghost use Rattle.std.specs.declared.ops.Bound.TheVariants.{Included, Excluded, Unbounded};
 ghost use Rattle.std.specs.Str.{bytes_eq};
-ghost use Rattle.xb_words.specs.Table.{entry_after, first_of as first_in, value_at, with_value, without, IsRising};
+ghost use Rattle.xb_words.specs.Table.{entry_after, first_of as first_in, value_at, without, IsRising};
 ghost use Rattle.xb_values.specs.Prefixes.{Prefix, prefix_cmp};
 ghost use Rattle.xb_wire.specs.Messages.{IsMessage};
 ghost use Rattle.bgp_write.specs.Packers.{packed_so_far, buffer_of, reference_of};
 ghost use Rattle.bgp_write.specs.Packings.{announcing, withdrawing};
 ghost use Rattle.bgp_write.specs.Pending.{section_of};
 ghost use Rattle.bgp_write.specs.Written.{Replaces};
-ghost use Rattle.out_sorted.specs.Slots.{adv_in, told_in, advertised, is_fresh, is_gone, keys_where, retold};
-ghost use Rattle.out_sorted.specs.Slots.{taken_back, was_told, IsSound, Keeps};
+ghost use Rattle.out_sorted.specs.Slots.{adv_in, told_in, advertised, change_of, is_fresh, is_gone, keys_where, retold};
+ghost use Rattle.out_sorted.specs.Slots.{retracted, with_slot, IsSound, Keeps};
 ghost use Rattle.out_sorted.specs.Waits.{Has};
 ghost use Rattle.out_sorted.specs.Sending.{announcement_from, formed_by, withdrawal_from};
 
 use crate::entry::Entry;
-use crate::waiting::Waiting;
+use crate::waiting::{Change, Waiting, Waits};
 use bgp_write::Packer;
 use std::alloc::{AllocError, Global};
 use std::collections::BTreeMap;
+use std::collections::btree_map::Entry as Place;
 use std::ops::Bound;
 use xb_values::{Buf, Prefix};
 use xb_wire::numbers::MAX_MESSAGE;
 
 pub(crate) type Entries = BTreeMap<Prefix, Entry>;
 
-/// Advertises a section. Whether the prefix then waits to be announced is returned. The error is want of memory; then
+/// Advertises a section. How the prefix waits before and after that is returned. The error is want of memory; then
 /// nothing changed.
 pub(crate) fn put(
     entries: &mut Entries,
     alloc: Global,
     prefix: Prefix,
     section: &[u8],
-) -> Result<bool, AllocError>
-    ensures ok { OnOk result (entries.new.entries ≡ with_value prefix_cmp entries.old.entries prefix
-        (advertised (value_at prefix_cmp entries.old.entries prefix) section.now)) }
-    ensures waits { IfOk result (λ waits. waits
-        ≡ is_fresh (advertised (value_at prefix_cmp entries.old.entries prefix) section.now)) }
+) -> Result<Change, AllocError>
+    ensures ok { OnOk result (entries.new.entries ≡ with_slot entries.old.entries prefix
+        (Some (advertised (value_at prefix_cmp entries.old.entries prefix) section.now))) }
+    ensures change { let old = value_at prefix_cmp entries.old.entries prefix in
+        IfOk result (λ c. c ≡ change_of old (Some (advertised old section.now))) }
     ensures err { OnErr result (entries.new.entries ≡ entries.old.entries) }
 {
-    let Some(entry) = entries.get_mut(&prefix) else {
-        let _ = entries.insert(prefix, Entry::fresh(alloc, section)?)?;
-        return Ok(true);
-    };
-    entry.set(alloc, section)?;
-    Ok(entry.is_fresh())
+    match entries.entry(prefix)? {
+        Place::Vacant(vacant) => {
+            vacant.insert(Entry::fresh(alloc, section)?);
+            Ok(Change {
+                before: Waits::none(),
+                after: Waits::to_announce(),
+            })
+        }
+        Place::Occupied(occupied) => occupied.into_mut().set(alloc, section),
+    }
 }
 
-/// Advertises a prefix no longer. Whether it then waits to be withdrawn is returned.
-pub(crate) fn take_back(entries: &mut Entries, prefix: Prefix) -> bool
-    ensures after { entries.new.entries
-        ≡ taken_back entries.old.entries prefix (value_at prefix_cmp entries.old.entries prefix) }
-    ensures waits { result ≡ was_told (value_at prefix_cmp entries.old.entries prefix) }
+/// Advertises a prefix no longer. How it waits before and after that is returned.
+pub(crate) fn take_back(entries: &mut Entries, prefix: Prefix) -> Change
+    ensures after { entries.new.entries ≡ with_slot entries.old.entries prefix
+        (retracted (value_at prefix_cmp entries.old.entries prefix)) }
+    ensures change { let old = value_at prefix_cmp entries.old.entries prefix in
+        result ≡ change_of old (retracted old) }
 {
     let Some(entry) = entries.get_mut(&prefix) else {
-        return false;
+        return Change {
+            before: Waits::none(),
+            after: Waits::none(),
+        };
     };
+    let before = entry.waits();
     if entry.is_told() {
         entry.unset();
-        return true;
+        return Change {
+            before,
+            after: Waits::to_withdraw(),
+        };
     }
     forget(entries, prefix);
-    false
+    Change {
+        before,
+        after: Waits::none(),
+    }
 }
 
 // Forgets a prefix.
@@ -206,11 +222,8 @@ fn section_at(entries: &Entries, prefix: Prefix) -> &[u8]
     requires { IsRising prefix_cmp entries.now.entries }
     ensures { result.now ≡ section_of (adv_in entries.now.entries) prefix }
 {
-    let Some(entry) = entries.get(&prefix) else {
-        return &[];
-    };
-    match entry.adv() {
-        Some(section) => section,
+    match entries.get(&prefix) {
+        Some(entry) => entry.section(),
         None => &[],
     }
 }
@@ -253,8 +266,8 @@ fn pack_withdrawals(
     }
 }
 
-// Packs the prefixes that wait to be announced, from the first on up to one with another section, as far as the message
-// has room.
+// Packs prefixes that wait to be announced, up to one with another section than the first of the message, as far as the
+// message has room.
 fn pack_announcement(
     entries: &mut Entries,
     fresh: &mut Waiting,
@@ -263,26 +276,25 @@ fn pack_announcement(
 )
     requires sound { IsSound entries.old.entries }
     requires waits { Has fresh.old (keys_where is_fresh entries.old.entries) }
-    requires first { Some first ≡ first_in (keys_where is_fresh entries.old.entries) }
-    requires packer { packed_so_far packer.old ≡ announcing (section_of (adv_in entries.old.entries) first) }
+    requires packer { packed_so_far packer.old ≡ record (announcing (section_of (adv_in entries.old.entries) first)) {
+      prefixes = (packed_so_far packer.old).prefixes;
+    } }
     ensures keeps { Keeps is_gone entries.old.entries entries.new.entries }
     ensures waits { Has fresh.new (keys_where is_fresh entries.new.entries) }
-    ensures formed { formed_by (packed_so_far packer.new) entries.new.entries
-        ≡ announcement_from (section_of (adv_in entries.old.entries) first) [] entries.old.entries }
+    ensures formed { formed_by (packed_so_far packer.new) entries.new.entries ≡ announcement_from
+        (section_of (adv_in entries.old.entries) first) (packed_so_far packer.old).prefixes entries.old.entries }
     ensures same_reference { reference_of packer.new ≡ reference_of packer.old }
     ensures capacity { (buffer_of packer.new).capacity ≡ (buffer_of packer.old).capacity }
 {
-    let mut left = first;
-    'prefixes: while is_with(entries, left, first) {
+    'prefixes: while let Some(left) = next_fresh(entries, fresh) {
+        if !is_with(entries, left, first) {
+            return;
+        }
         if !packer.push(left) {
             return;
         }
         tell(entries, left);
         fresh.remove_first();
-        let Some(next) = next_fresh(entries, fresh) else {
-            return;
-        };
-        left = next;
     }
 }
 
@@ -317,7 +329,15 @@ pub(crate) fn announce(entries: &mut Entries, fresh: &mut Waiting, first: Prefix
         Replaces out.old out.new (announcement_from section [] entries.old.entries).message }
     ensures message { IsMessage out.new.octets }
 {
-    let mut packer = Packer::announce(out, section_at(entries, first));
+    // It has an entry, since it waits.
+    let Some(entry) = entries.get_mut(&first) else {
+        return;
+    };
+    let mut packer = Packer::announce(out, entry.section());
+    entry.tell();
+    // Beside a section there is room for one prefix.
+    let _ = packer.push(first);
+    fresh.remove_first();
     pack_announcement(entries, fresh, &mut packer, first);
     packer.finish();
 }

@@ -12,9 +12,13 @@ ghost use Rattle.spk_model.specs.Tournaments.{choose as choice, is_new_preferred
 ghost use Rattle.spk_model.specs.Tournaments.{IsMeeting};
 
 use crate::field::Field;
-use spk_native::{MAX_CANDIDATES, survivor};
+use spk_native::{MAX_CANDIDATES, Rank, survivor};
 use xb_values::Prefix;
 use xbgp_points::{Engine, Outcome};
+
+// Most prefixes have no more candidates. A function fills its arrays whenever it is called, so larger ones have
+// functions of their own.
+const FEW: usize = 8;
 
 // Whether the native decision prefers the second of two candidates.
 fn is_second_better<F: Field>(field: &F, old: usize, new: usize) -> bool
@@ -65,8 +69,35 @@ fn meet<F: Field>(engine: &mut Engine, prefix: Prefix, field: &F, old: usize, ne
     )
 }
 
-// The index of the best candidate by the native decision of several.
-fn best_of_several<F: Field>(field: &F) -> usize
+// The index of the best candidate by the native decision, with room for the ranks of all.
+fn best_within<F: Field>(field: &F, ranks: &mut [Rank]) -> usize
+    requires some { 1 ≤ length (F.candidates field.now) }
+    requires few { length (F.candidates field.now) ≤ MAX_CANDIDATES }
+    requires room { length (F.candidates field.now) ≤ length ranks.old }
+    requires apart { AreRivals (F.candidates field.now) }
+    ensures index { result ≡ survivor_in (map (λ c. c.rank) (F.candidates field.now)) }
+    ensures within { result < length (F.candidates field.now) }
+{
+    for i in 0..field.count() {
+        ranks[i] = field.rank(i);
+    }
+    survivor(&ranks[..field.count()])
+}
+
+// The index of the best of few candidates by the native decision.
+fn best_of_few<F: Field>(field: &F) -> usize
+    requires some { 1 ≤ length (F.candidates field.now) }
+    requires few { length (F.candidates field.now) ≤ FEW }
+    requires apart { AreRivals (F.candidates field.now) }
+    ensures index { result ≡ survivor_in (map (λ c. c.rank) (F.candidates field.now)) }
+    ensures within { result < length (F.candidates field.now) }
+{
+    let mut ranks = [field.rank(0); FEW];
+    best_within(field, &mut ranks)
+}
+
+// The index of the best of many candidates by the native decision.
+fn best_of_many<F: Field>(field: &F) -> usize
     requires some { 1 ≤ length (F.candidates field.now) }
     requires few { length (F.candidates field.now) ≤ MAX_CANDIDATES }
     requires apart { AreRivals (F.candidates field.now) }
@@ -74,10 +105,7 @@ fn best_of_several<F: Field>(field: &F) -> usize
     ensures within { result < length (F.candidates field.now) }
 {
     let mut ranks = [field.rank(0); MAX_CANDIDATES];
-    for i in 0..field.count() {
-        ranks[i] = field.rank(i);
-    }
-    survivor(&ranks[..field.count()])
+    best_within(field, &mut ranks)
 }
 
 // The index of the best candidate by the native decision of all.
@@ -91,7 +119,10 @@ fn best_of_all<F: Field>(field: &F) -> usize
     if field.count() == 1 {
         return 0;
     }
-    best_of_several(field)
+    if field.count() <= FEW {
+        return best_of_few(field);
+    }
+    best_of_many(field)
 }
 
 // Whether no program runs at decision.

@@ -2,6 +2,8 @@ pub mod ExportLemmas
 pub mod RebuildsLemmas
 pub mod NarrowLemmas
 pub mod ReceiptLemmas
+mod ReplacesLemmas
+mod UsualLemmas
 pub mod ReceiptRows
 pub mod ValuesLemmas
 pub mod LeftLemmas

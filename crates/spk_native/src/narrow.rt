@@ -54,8 +54,8 @@ fn has_wide_number(octets: &[u8], count: u8) -> bool
     false
 }
 
-// Whether two octets cannot hold some AS number of a path.
-fn is_wide_path(value: &[u8]) -> bool
+/// Whether two octets cannot hold some AS number of a path.
+pub(crate) fn is_wide_path(value: &[u8]) -> bool
     requires path { is_path 4 value.now ≡ true }
     requires short { length value.now ≤ MAX_CANONICAL }
     ensures { result ≡ has_wide value.now }
@@ -79,8 +79,8 @@ fn is_wide_aggregator(value: &[u8]) -> bool
     !is_narrow(u32_at(value, 0))
 }
 
-// An AS_PATH in two octets a number.
-fn narrow_path_of<'a>(path: &Held<'_>, room: &'a mut [u8]) -> Held<'a>
+/// An AS_PATH in two octets a number.
+pub(crate) fn narrow_path_of<'a>(path: &Held<'_>, room: &'a mut [u8]) -> Held<'a>
     requires path { is_path 4 path.now.value ≡ true }
     requires room { length path.now.value ≤ length room.old }
     ensures { result ≡ record { flags = path.now.flags; value = narrow_path path.now.value } }

@@ -1,17 +1,19 @@
 // Routes in the form of a session with AS numbers of two octets.
-ghost use Rattle.std.specs.Prelude.{◌≡◌, ◌<◌, ◌≤◌, length, false, nat_le, IfErr, IfOk, MatchBool};
+ghost use Rattle.std.specs.Prelude.{◌≡◌, ◌<◌, ◌≤◌, length, false, is_some, nat_le, IfErr, IfNone, IfOk, IfSome};
+ghost use Rattle.std.specs.Prelude.{MatchBool};
 ghost use Rattle.bgp_attr.specs.Paths.{width_of};
 ghost use Rattle.bgp_attr.specs.Routes.{canon};
+ghost use Rattle.xbgp_view.specs.Views.{code_from};
 ghost use Rattle.spk_native.specs.Receipt.{inflow, narrow, without_narrow as without_both};
 ghost use Rattle.spk_native.specs.Values.{HasNoFault, IsFaultless};
 
-use crate::four::{USUAL, entry_len, four_in, four_len, rebuild};
-use crate::narrow::{NARROW_AGGREGATOR, narrow_four};
-use crate::wide::{TooLong, WIDE_AGGREGATOR, wide_four};
+use crate::four::{USUAL, entry_len, four_in, had_in, rebuild};
+use crate::narrow::{NARROW_AGGREGATOR, is_wide_path, narrow_four, narrow_path_of};
+use crate::wide::{TooLong, WIDE_AGGREGATOR, wide_four, wide_path_of};
 use bgp_attr::MAX_CANONICAL;
-use bgp_attr::codes::{AS4_AGGREGATOR, AS4_PATH};
+use bgp_attr::codes::{AGGREGATOR, AS_PATH, AS4_AGGREGATOR, AS4_PATH};
 use xb_wire::numbers::{MAX_MESSAGE, MAX_SECTION};
-use xbgp_view::Overlay;
+use xbgp_view::{Overlay, RouteView};
 
 /// Makes a route what it becomes for a session with AS numbers of two octets and returns true, or false, with nothing
 /// changed, if the canonical section would then have more than [`MAX_SECTION`] octets (RFC 6793, section 4.2.2).
@@ -21,11 +23,37 @@ pub fn narrow_route(route: &mut Overlay) -> bool
     ensures after { MatchBool result
         (route.new ≡ record route.old { route = narrow route.old.route }) (route.new ≡ route.old) }
 {
-    if route.section_len() <= USUAL {
-        narrow_short(route)
-    } else {
-        narrow_long(route)
+    if route.section_len() > USUAL {
+        return narrow_long(route);
     }
+    match narrow_usual(route) {
+        Some(fits) => fits,
+        None => narrow_short(route),
+    }
+}
+
+// What narrow_route does with a section of at most USUAL octets if only the AS_PATH becomes another, or None, with
+// nothing changed.
+fn narrow_usual(route: &mut Overlay) -> Option<bool>
+    requires sound { HasNoFault route.old.route }
+    requires short { length (canon route.old.route) ≤ USUAL }
+    ensures fits { IfSome result (λ fits. fits ≡ nat_le (length (canon (narrow route.old.route))) MAX_SECTION) }
+    ensures after { IfSome result (λ fits. MatchBool fits
+        (route.new ≡ record route.old { route = narrow route.old.route }) (route.new ≡ route.old)) }
+    ensures unchanged { IfNone result (route.new ≡ route.old) }
+{
+    let mut room = [0u8; USUAL];
+    if route.code_from(u16::from(AGGREGATOR)).is_some() {
+        return None;
+    }
+    let Some(path) = route.attribute(AS_PATH) else {
+        return Some(route.section_len() <= MAX_SECTION);
+    };
+    if is_wide_path(path.value()) {
+        return None;
+    }
+    let path = narrow_path_of(&path, &mut room);
+    Some(route.set(AS_PATH, path.flags(), path.value(), MAX_SECTION))
 }
 
 // What narrow_route does with a section of at most USUAL octets.
@@ -73,9 +101,9 @@ fn narrow_within(
 {
     let mut aggregator = [0u8; NARROW_AGGREGATOR];
     let had = four_in(route);
-    let len = four_len(&had);
+    let held = had_in(&had);
     let four = narrow_four(&had, path, &mut aggregator, path4, aggregator4);
-    rebuild(route, len, &four, MAX_SECTION)
+    rebuild(route, held, &four, MAX_SECTION)
 }
 
 // Removes AS4_PATH and AS4_AGGREGATOR, if what is left is short enough.
@@ -84,6 +112,9 @@ fn drop_narrow(route: &mut Overlay) -> bool
     ensures after { MatchBool result
         (route.new ≡ record route.old { route = without_both route.old.route }) (route.new ≡ route.old) }
 {
+    if route.code_from(u16::from(AS4_PATH)).is_none() {
+        return route.section_len() <= MAX_MESSAGE;
+    }
     let gone = entry_len(route, AS4_PATH) + entry_len(route, AS4_AGGREGATOR);
     if route.section_len() - gone > MAX_MESSAGE {
         return false;
@@ -136,6 +167,26 @@ fn widen_long(route: &mut Overlay) -> bool
     widen_within(route, &mut path).unwrap_or(false)
 }
 
+// What widen_within does with a route of which only the AS_PATH becomes another.
+fn widen_path(route: &mut Overlay, room: &mut [u8]) -> Result<bool, TooLong>
+    requires sound { IsFaultless 2 route.old.route }
+    requires alone { is_some (code_from route.old.route AGGREGATOR) ≡ false }
+    requires room { length room.old ≤ MAX_CANONICAL }
+    ensures fits { IfOk result (λ fits. fits ≡ nat_le (length (canon (inflow route.old.route false))) MAX_MESSAGE) }
+    ensures after { IfOk result (λ fits. MatchBool fits
+        (route.new ≡ record route.old { route = inflow route.old.route false }) (route.new ≡ route.old)) }
+    ensures room { IfErr result (λ e. length room.old < length (canon (inflow route.old.route false))) }
+    ensures unchanged { IfErr result (λ e. route.new ≡ route.old) }
+{
+    let Some(path) = route.attribute(AS_PATH) else {
+        return Ok(route.section_len() <= MAX_MESSAGE);
+    };
+    match wide_path_of(&path, None, room) {
+        None => Err(TooLong),
+        Some(wide) => Ok(route.set(AS_PATH, wide.flags(), wide.value(), MAX_MESSAGE)),
+    }
+}
+
 // What widen_route does with a route of two octets, or TooLong, with nothing changed, if its AS_PATH has no room.
 fn widen_within(route: &mut Overlay, path: &mut [u8]) -> Result<bool, TooLong>
     requires sound { IsFaultless 2 route.old.route }
@@ -146,9 +197,12 @@ fn widen_within(route: &mut Overlay, path: &mut [u8]) -> Result<bool, TooLong>
     ensures room { IfErr result (λ e. length path.old < length (canon (inflow route.old.route false))) }
     ensures unchanged { IfErr result (λ e. route.new ≡ route.old) }
 {
+    if route.code_from(u16::from(AGGREGATOR)).is_none() {
+        return widen_path(route, path);
+    }
     let mut aggregator = [0u8; WIDE_AGGREGATOR];
     let had = four_in(route);
-    let len = four_len(&had);
+    let held = had_in(&had);
     let four = wide_four(&had, path, &mut aggregator)?;
-    Ok(rebuild(route, len, &four, MAX_MESSAGE))
+    Ok(rebuild(route, held, &four, MAX_MESSAGE))
 }

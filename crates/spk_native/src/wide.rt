@@ -82,8 +82,12 @@ fn unless(since: bool, value: Option<&[u8]>) -> Option<&[u8]>
     if since { None } else { value }
 }
 
-// An AS_PATH in four octets a number.
-fn wide_path_of<'a>(path: &Held<'_>, path4: Option<&[u8]>, room: &'a mut [u8]) -> Option<Held<'a>>
+/// An AS_PATH in four octets a number, or None if it has no room.
+pub(crate) fn wide_path_of<'a>(
+    path: &Held<'_>,
+    path4: Option<&[u8]>,
+    room: &'a mut [u8],
+) -> Option<Held<'a>>
     requires path { is_path 2 path.now.value ≡ true }
     requires path4 { IfSome path4 (λ q. is_path 4 q.now ≡ true) }
     requires room { length room.old ≤ MAX_CANONICAL }

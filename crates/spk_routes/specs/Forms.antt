@@ -1,8 +1,9 @@
 -- What peers of one kind are sent of a route if no program runs at outbound and encode, and what is kept of it (for the
 -- private functions of forms.rt and export.rt).
-use Rattle.std.specs.Prelude.{◌≡◌, ℕ, Bool, List, [], map, Option, Some, None, MatchBool, IfSome, IsSome, if◌then◌else◌}
+use Rattle.std.specs.Prelude.{◌≡◌, ◌≤◌, ℕ, Bool, List, [], map, length, Option, Some, None}
+use Rattle.std.specs.Prelude.{MatchBool, IfSome, IsSome, if◌then◌else◌}
 use Rattle.bgp_attr.specs.declared.TheConstants.{MAX_CANONICAL}
-use Rattle.bgp_attr.specs.Routes.{Route, route_of}
+use Rattle.bgp_attr.specs.Routes.{Route}
 use Rattle.xb_domain.specs.declared.point.Point.TheVariants.{Outbound, Encode}
 use Rattle.spk_native.specs.Export.{marked_partial, native_section, to_external, to_internal}
 use Rattle.spk_native.specs.Receipt.{wire}
@@ -26,11 +27,14 @@ formed t best = short_enough (wire (native_section (carried t best)) t.wide)
 abbrev pub IsWritten : Bool → List ℕ → Option (List ℕ) → Type 0
 IsWritten sent octets section = MatchBool sent (section ≡ Some octets) (section ≡ None)
 
--- a form is what it says that it was made of; it has room for any canonical section
-pub record IsForm (f : Form) : Type 0 where
-  pub from : f.from.capacity ≡ MAX_CANONICAL
-  pub section : f.section.capacity ≡ MAX_CANONICAL
-  pub meaning : IfSome f.terms (λ t. IsWritten f.fits f.section.octets (formed t (route_of f.from.octets)))
+-- a form keeps what is sent of a route by some terms, as one section
+pub record Keeps (f : Form) (t : Terms) (best : Route) : Type 0 where
+  pub sent : IsWritten f.fits f.section.items (formed t best)
+  pub short : length f.section.items ≤ MAX_CANONICAL
+
+-- what a form keeps, if anything, is what is sent of a route
+abbrev pub IsForm : Form → Route → Type 0
+IsForm f best = IfSome f.terms (λ t. Keeps f t best)
 
 -- terms by which peers are sent the same of any route
 pub record AreAlike (a b : Terms) : Type 0 where
@@ -40,11 +44,10 @@ pub record AreAlike (a b : Terms) : Type 0 where
   pub asn : (a.local).asn ≡ (b.local).asn
   pub address : (a.local).address ≡ (b.local).address
 
--- a form was made of a section, by terms or by some that are like them
-pub record IsOf (f : Form) (section : List ℕ) (by : Terms) : Type 0 where
+-- a form was made by terms that are like these
+pub record IsBy (f : Form) (by : Terms) : Type 0 where
   pub made : IsSome f.terms
   pub alike : IfSome f.terms (λ t. AreAlike t by)
-  pub from : f.from.octets ≡ section
 
 -- no program runs at outbound and at encode
 pub record RunsNone (e : Kept) : Type 0 where

@@ -1,6 +1,7 @@
 pub mod Candidates
 pub mod Exports
 pub mod Forms
+pub mod Places
 pub mod Sound
 pub mod Rooms
 pub mod Each

@@ -61,7 +61,8 @@ octets-drop zero s all = all
 octets-drop (suc n) [] all = tt
 octets-drop (suc n) (b ∷ s) all = octets-drop n s all.1
 
-header_cases : (b : Bool) → 3 ≤ cond b 4 3
+-- a header has at least three octets
+pub header_cases : (b : Bool) → 3 ≤ cond b 4 3
 header_cases true = omega arith
 header_cases false = omega arith
 

@@ -7,3 +7,4 @@ pub mod LengthsLemmas
 pub mod IndexesLemmas
 pub mod ViewsLemmas
 pub mod RisingLemmas
+pub mod FormLemmas

@@ -6,6 +6,7 @@ use Rattle.bgp_attr.specs.Routes.{Attribute, Route, route_of, canon, canonical, 
 use Rattle.bgp_attr.specs.declared.attrs.Attr.{Attr}
 use Rattle.bgp_attr.specs.declared.attrs.Overrun.{Overrun}
 use Rattle.bgp_attr.specs.Walks.{FoundAttr}
+use Rattle.bgp_attr.specs.declared.flags.TheConstants.{EXTENDED_LENGTH}
 
 -- the octets are the canonical section of the route that they are read as
 pub record IsCanonical (section : List ℕ) : Type 0 where
@@ -40,6 +41,12 @@ past_code code (e ∷ es) = if e.0 == code then es else e ∷ es
 -- what a route has of an attribute
 abbrev pub kept_attr : Attr → Attribute
 kept_attr a = record { flags = kept_flags a.flags; value = a.value.now }
+
+-- the flags of an attribute in its canonical form, by those that were received: of the others the one for a length of
+-- two octets is set, exactly if the value has more than 255
+abbrev pub form_flags : ℕ → List ℕ → ℕ
+form_flags flags value =
+    if nat_lt 255 (length value) then kept_flags flags + EXTENDED_LENGTH else kept_flags flags
 
 -- the first attribute of a walk whose code is at least `from`
 abbrev pub found_from : ℕ → List (Result FoundAttr Overrun) → Option FoundAttr

@@ -1,16 +1,16 @@
 // A route that can be edited: its canonical section, in which each edit cuts or fills the gap of one code.
 ghost use Rattle.std.specs.Prelude.{◌≡◌, ℕ, ◌≤◌, ◌+◌, [], length, is_some, nat_le, if◌then◌else◌, IfOk};
-ghost use Rattle.std.specs.Bool.{OnFalse, OnTrue};
+ghost use Rattle.std.specs.Bool.{OnFalse};
 ghost use Rattle.bgp_attr.specs.Routes.{attribute_at, canon, route_of, with_attribute, without_attribute};
 ghost use Rattle.xbgp_view.specs.Sections.{IsCanonical, IsGap};
 ghost use Rattle.xb_values.specs.Buffers.{Appends};
 
 use crate::find::{Gap, attribute_in, code_in, copy_value, gap_at};
 use crate::held::Held;
-use crate::section::next_attr;
+use crate::reading::read_section;
 use crate::spell::{append_attribute, kept_flags, spelled_len};
-use crate::{RouteView, SectionView, write_section};
-use bgp_attr::{Attrs, MAX_CANONICAL};
+use crate::{RouteView, write_section};
+use bgp_attr::MAX_CANONICAL;
 use std::alloc::{AllocError, Global};
 use std::marker::Model;
 use std::mem;
@@ -82,6 +82,24 @@ fn fill_gap(section: &[u8], code: u8, gap: Gap, flags: u8, value: &[u8], out: &m
     out.append(&section[gap.end..]);
 }
 
+// Sets an attribute at the end of a section, where the last one is of its code or of one below.
+fn fill_last(section: &mut Buf, code: u8, gap: Gap, flags: u8, value: &[u8])
+    requires section { IsCanonical section.old.octets }
+    requires gap { IsGap code section.old.octets (gap.start, gap.end) }
+    requires last { gap.end ≡ length section.old.octets }
+    requires room { section.old.capacity ≡ MAX_CANONICAL }
+    requires fits { length (canon (with_attribute (route_of section.old.octets) code flags value.now)) ≤ MAX_CANONICAL }
+    ensures written { section.new ≡ record section.old {
+      octets = canon (with_attribute (route_of section.old.octets) code flags value.now);
+    } }
+    ensures canonical { IsCanonical section.new.octets }
+    ensures route { route_of section.new.octets
+        ≡ with_attribute (route_of section.old.octets) code flags value.now }
+{
+    section.truncate(gap.start);
+    append_attribute(section, code, kept_flags(flags), value);
+}
+
 impl RouteView for Overlay {
     ghost route = { λ o. o.route };
 
@@ -103,39 +121,10 @@ impl RouteView for Overlay {
     fn code_from(&self, from: u16) -> Option<u8> {
         code_in(self.section.as_slice(), from)
     }
-}
 
-// Replaces the content of `out` by the canonical section of the route of a section whose codes rise, and returns true,
-// or false, with any content, if the codes don't rise.
-fn read_rising(section: &[u8], out: &mut Buf) -> bool
-    requires section { length section.now ≤ MAX_CANONICAL }
-    requires room { out.old.capacity ≡ MAX_CANONICAL }
-    ensures capacity { out.new.capacity ≡ MAX_CANONICAL }
-    ensures canonical { OnTrue result (IsCanonical out.new.octets) }
-    ensures route { OnTrue result (route_of out.new.octets ≡ route_of section.now) }
-{
-    let mut attrs = Attrs::new(section);
-    let mut from = 0u16;
-    out.clear();
-    'attrs: while let Some(attr) = next_attr(&mut attrs) {
-        if u16::from(attr.code) < from {
-            return false;
-        }
-        append_attribute(out, attr.code, kept_flags(attr.flags), attr.value);
-        from = u16::from(attr.code) + 1;
+    fn canonical_section(&self) -> Option<&[u8]> {
+        Some(self.section.as_slice())
     }
-    true
-}
-
-// Replaces the content of `out` by the canonical section of the route of a section.
-fn read_any(section: &[u8], out: &mut Buf)
-    requires section { length section.now ≤ MAX_CANONICAL }
-    requires room { out.old.capacity ≡ MAX_CANONICAL }
-    ensures capacity { out.new.capacity ≡ MAX_CANONICAL }
-    ensures canonical { IsCanonical out.new.octets }
-    ensures route { route_of out.new.octets ≡ route_of section.now }
-{
-    write_section(&SectionView::new(section), out);
 }
 
 impl Overlay {
@@ -163,9 +152,7 @@ impl Overlay {
         requires { length section.now ≤ MAX_CANONICAL }
         ensures { self.new ≡ record self.old { route = route_of section.now } }
     {
-        if !read_rising(section, &mut self.section) {
-            read_any(section, &mut self.section);
-        }
+        read_section(section, &mut self.section);
     }
 
     /// Makes it the empty route, and leaves the kept copy.
@@ -234,6 +221,10 @@ impl Overlay {
         let gap = gap_at(self.section.as_slice(), code);
         if len_with(self.section.as_slice(), code, gap, value) > limit {
             return false;
+        }
+        if gap.end == self.section.len() {
+            fill_last(&mut self.section, code, gap, flags, value);
+            return true;
         }
         fill_gap(
             self.section.as_slice(),

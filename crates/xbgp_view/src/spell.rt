@@ -2,6 +2,7 @@
 ghost use Rattle.std.specs.Prelude.{◌≡◌, ℕ, ◌+◌, ◌<◌, ◌≤◌, ◌∷◌, ◌++◌, length};
 ghost use Rattle.xb_words.specs.Octets.{two_octets};
 ghost use Rattle.bgp_attr.specs.Routes.{canonical, kept_flags};
+ghost use Rattle.xbgp_view.specs.Sections.{form_flags};
 
 use bgp_attr::MAX_CANONICAL;
 use bgp_attr::flags::{EXTENDED_LENGTH, KEPT};
@@ -36,6 +37,17 @@ fn extended(flags: u8) -> u8
     ensures { result ≡ flags + EXTENDED_LENGTH }
 {
     flags | EXTENDED_LENGTH
+}
+
+/// The flags that an attribute has in its canonical form, by those that were received.
+pub(crate) fn form_flags(flags: u8, value: &[u8]) -> u8
+    ensures { result ≡ form_flags flags value.now }
+{
+    if value.len() > MAX_SHORT {
+        extended(kept_flags(flags))
+    } else {
+        kept_flags(flags)
+    }
 }
 
 // Appends an attribute whose length has two octets.

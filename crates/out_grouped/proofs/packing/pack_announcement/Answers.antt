@@ -1,10 +1,12 @@
 use Rattle.std.proofs.Common.{◌≡◌, List, [], ℕ, sym, ◌∙◌, ap, subst}
+use Rattle.std.proofs.lemmas.Bool.{OnTrue_from}
 use Rattle.bgp_write.specs.Packers.{packed_so_far}
 use Rattle.bgp_write.specs.Packings.{Packed, announcing}
 use Rattle.bgp_write.specs.Pending.{section_of}
 use Rattle.out_grouped.specs.Slots.{adv_in, keys_where, waits_with, Keeps}
-use Rattle.out_grouped.specs.Groups.{members}
+use Rattle.out_grouped.specs.Groups.{group_at, members}
 use Rattle.out_grouped.specs.Sending.{announcement_from}
+use Rattle.out_grouped.proofs.GroupLemmas.{group_at-emptied, when_lent}
 use Rattle.out_grouped.proofs.SendingLemmas.{IsGrouped-announced, announcement_from-all, gone-kept}
 use Rattle.out_grouped.proofs.packing.pack_announcement.Goals as goal
 
@@ -30,6 +32,8 @@ returns-in-Some c =
     let new = c.pack_group.new.entries.entries in
     let section = ap (λ (x : Packed). x.section) c.requires.packer in
     let looked : packed.section ≡ c.section_at.result.now = section ∙ sym c.section_at.ensures in
+    let lent = when_lent c.get_mut.result c.in-Some.group _ (c.get_mut.follows.holds c.pack_group.new.group)
+    c.in-Some.is in
     let keeps = subst (λ (s : List ℕ). Keeps (waits_with s) es new) looked p.keeps in
     record {
       sound = p.keeps.sound;
@@ -39,14 +43,19 @@ returns-in-Some c =
       groups = IsGrouped-announced c.args.groups.now (c.get_mut.follows.lender c.pack_group.new.group) es new
           c.section_at.result.now c.in-Some.group.now c.pack_group.new.group (sym c.in-Some.ensures.value)
           (p.group ∙ ap (λ (s : List ℕ). keys_where (waits_with s) new) looked)
-          (c.get_mut.follows.holds c.pack_group.new.group).3 c.requires.groups keeps;
+          lent c.requires.groups keeps;
+      empty = OnTrue_from c.is_empty.result _ (λ empty.
+          subst (λ (s : List ℕ). group_at (c.get_mut.follows.lender c.pack_group.new.group) s ≡ [])
+          c.section_at.ensures
+          (group_at-emptied (c.get_mut.follows.lender c.pack_group.new.group) c.section_at.result.now
+          c.pack_group.new.group lent.changed (c.is_empty.ensures.0 empty)));
       formed = p.formed ∙ ap (λ (s : List ℕ). announcement_from s [] es) section;
       same_reference = p.same_reference;
       capacity = p.capacity;
     }
 
-pub returns-in_default-clause-formed : goal.returns-in_default-clause-formed
-returns-in_default-clause-formed c =
+pub returns-clause-formed : goal.returns-clause-formed
+returns-clause-formed c =
     let es = c.args.entries.now.entries in
     let packed = packed_so_far c.args.packer.now in
     let section = section_of (adv_in es) c.args.first in

@@ -1,9 +1,8 @@
-use Rattle.std.proofs.Common.{List, refl, sym, ◌∙◌, ap, subst, length, arith}
-use Rattle.std.specs.BTreeMap.{is_at}
-use Rattle.std.specs.Set.{remove_key}
+use Rattle.std.proofs.Common.{◌≡◌, ◌<◌, List, ◌∷◌, Option, Some, None, refl, sym, ◌∙◌, ap, subst, length, arith}
+use Rattle.std.specs.Option.{IfSome, IsSome}
 use Rattle.std.proofs.lemmas.Bool.{false≢true}
 use Rattle.xb_words.specs.Table.{first_of}
-use Rattle.xb_values.specs.Prefixes.{Prefix, prefix_cmp}
+use Rattle.xb_values.specs.Prefixes.{Prefix}
 use Rattle.bgp_write.specs.Packers.{packed_so_far}
 use Rattle.bgp_write.specs.Packings.{Packed, announcing}
 use Rattle.out_grouped.specs.Slots.{is_fresh, keys_where, waits_with}
@@ -12,8 +11,14 @@ use Rattle.out_grouped.specs.Sending.{announcement_from, formed_by}
 use Rattle.out_grouped.proofs.PendingLemmas.{no_first}
 use Rattle.out_grouped.proofs.SendingLemmas.{announcement_from-all, announcement_from-full, fresh-retold, keeps-itself}
 use Rattle.out_grouped.proofs.SendingLemmas.{keeps-retold, keys-retold, more_announced, shape-announcing}
-use Rattle.out_grouped.proofs.SendingLemmas.{with-retold, with_is_advertised}
+use Rattle.out_grouped.proofs.SendingLemmas.{with_is_advertised}
 use Rattle.out_grouped.proofs.packing.pack_group.Goals as goal
+
+-- a group without its first prefix
+popped : (first : Option Prefix) (ks new rest : List Prefix) (p : Prefix) → (0 < length ks → IsSome first)
+    → IfSome first (λ k. ks ≡ k ∷ new) → ks ≡ p ∷ rest → new ≡ rest
+popped None ks new rest p some removal is = absurd (false≢true (some (omega (arith, ap length is))))
+popped (Some k) ks new rest p some removal is = cc (removal, is)
 
 pub prefixes-init : goal.prefixes-init
 prefixes-init c =
@@ -65,10 +70,10 @@ prefixes-smaller c =
     let s = (packed_so_far c.args.packer.now).section in
     let p = c.in-Some.prefix in
     let first = ap (λ (l : List Prefix). first_of l) (sym i.group) ∙ sym c.in-Some.ensures in
-    let group = c.remove.ensures.keys ∙ ap (remove_key (is_at (prefix_cmp p))) i.group
-    ∙ sym (with-retold s es new p i.keeps.sound.rising first c.tell.ensures) in
-    let before = ap length (i.group ∙ keys-retold s es new p i.keeps.sound.rising first c.tell.ensures) in
-    let after = ap length group in
+    let keys = i.group ∙ keys-retold s es new p i.keeps.sound.rising first c.tell.ensures in
+    let before = ap length keys in
+    let after = ap length (popped c.pop_first.result c.prefixes.group.keys c.pop_first.new.self.keys _ p
+    c.pop_first.ensures.variant.1 c.pop_first.ensures.removal keys) in
     omega (arith, before, after)
 
 pub prefixes-preserved : goal.prefixes-preserved
@@ -87,8 +92,9 @@ prefixes-preserved c =
       waits = subst (λ (ps : List Prefix). Has c.set.new.self ps)
           (sym (fresh-retold s es new p i.keeps.sound.rising first c.tell.ensures))
           (c.set.ensures (keys_where is_fresh es) i.waits);
-      group = c.remove.ensures.keys ∙ ap (remove_key (is_at (prefix_cmp p))) i.group
-          ∙ sym (with-retold s es new p i.keeps.sound.rising first c.tell.ensures);
+      group = popped c.pop_first.result c.prefixes.group.keys c.pop_first.new.self.keys _ p
+          c.pop_first.ensures.variant.1 c.pop_first.ensures.removal
+          (i.group ∙ keys-retold s es new p i.keeps.sound.rising first c.tell.ensures);
       shape = shape-announcing packed after s p i.shape c.if-not-push.ensures.after;
       whole = more_announced old es new p s packed after i.keeps first i.shape i.whole
           (c.push.ensures.fits.0 c.if-not-push.false) c.if-not-push.ensures.after c.tell.ensures;

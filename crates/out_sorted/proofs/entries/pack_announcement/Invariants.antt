@@ -1,5 +1,4 @@
-use Rattle.std.proofs.Common.{◌≡◌, [], Some, length}
-use Rattle.xb_words.specs.Table.{first_of}
+use Rattle.std.proofs.Common.{◌≡◌, length}
 use Rattle.bgp_write.specs.Packers.{packed_so_far, buffer_of, reference_of}
 use Rattle.bgp_write.specs.Packings.{announcing}
 use Rattle.bgp_write.specs.Pending.{section_of}
@@ -13,14 +12,14 @@ abbrev pub invariant-prefixes : goal.invariant-prefixes
 invariant-prefixes l = record {
   keeps : Keeps is_gone l.initial.entries.entries l.entries.entries;
   waits : Has l.fresh (keys_where is_fresh l.entries.entries);
-  first : first_of (keys_where is_fresh l.entries.entries) ≡ Some l.left;
   shape : packed_so_far l.packer
       ≡ record (announcing (section_of (adv_in l.initial.entries.entries) l.first)) {
         prefixes = (packed_so_far l.packer).prefixes;
       };
   whole : announcement_from (section_of (adv_in l.initial.entries.entries) l.first)
       (packed_so_far l.packer).prefixes l.entries.entries
-      ≡ announcement_from (section_of (adv_in l.initial.entries.entries) l.first) [] l.initial.entries.entries;
+      ≡ announcement_from (section_of (adv_in l.initial.entries.entries) l.first)
+      (packed_so_far l.initial.packer).prefixes l.initial.entries.entries;
   same_reference : reference_of l.packer ≡ reference_of l.initial.packer;
   capacity : (buffer_of l.packer).capacity ≡ (buffer_of l.initial.packer).capacity;
 }

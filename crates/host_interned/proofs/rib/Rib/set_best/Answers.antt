@@ -1,8 +1,14 @@
 use Rattle.std.proofs.Common.{◌+◌, arith}
 use Rattle.host_interned.specs.Ribs.{meant, same_id, times_held}
 use Rattle.host_interned.proofs.HeldLemmas.{chosen_live}
-use Rattle.host_interned.proofs.KeptLemmas.{is_living, sets_best, shares, source_lives}
+use Rattle.host_interned.proofs.KeptLemmas.{is_living, sets_best, shares, source_lives, stays_best}
 use Rattle.host_interned.proofs.rib.Rib.set_best.Goals as goal
+
+pub returns-then-is_best-clause-ok : goal.returns-then-is_best-clause-ok
+returns-then-is_best-clause-ok c =
+    let r = c.self.inside in
+    stays_best r.records r.own r.best r.peers.items c.args.self.now c.self.view_is c.self.invariant c.args.source
+    c.args.prefix c.in-Some.record c.in-Some.ensures (c.is_best.ensures.0 c.if-is_best.true)
 
 pub share-requires : goal.share-requires
 share-requires c =

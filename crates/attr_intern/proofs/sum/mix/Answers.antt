@@ -1,9 +1,0 @@
-use Rattle.std.proofs.Common.{ap, ◌*◌, ◌%◌, ◌^◌}
-use Rattle.std.specs.Prelude.{bit_xor}
-use Rattle.attr_intern.specs.Sums.{mixed}
-use Rattle.attr_intern.specs.declared.sum.TheConstants.{FACTOR}
-use Rattle.attr_intern.proofs.sum.mix.Goals as goal
-
-pub returns : goal.returns
-unfolding mixed
-returns c = ap (λ turned. (bit_xor turned c.args.number * FACTOR) % 2 ^ 64) c.rotate_left.ensures
