@@ -6,11 +6,12 @@ use Rattle.slab.specs.Slab.{Slab, get, entries}
 use Rattle.bgp_attr.specs.Routes.{Route, canon, route_of, IsRoute}
 use Rattle.xbgp_view.specs.Sections.{IsCanonical}
 use Rattle.xbgp_view.proofs.ReadingLemmas.{route_of-canon}
-use Rattle.attr_intern.specs.Ids.{SectionIds, ChangesId, id_of}
+use Rattle.section_map.specs.Sections.{ChangesAt, SameSections, at_section}
+use Rattle.section_map.specs.declared.map.SectionMap.{SectionMap}
 use Rattle.attr_intern.specs.Kept.{AreIndexed}
 use Rattle.attr_intern.specs.Pools.{Owned, most_owners, one_more, record_at, route_at, ArePooled}
 use Rattle.attr_intern.proofs.EntriesLemmas.{IsRising-entries, value_at-entries}
-use Rattle.attr_intern.proofs.IdsLemmas.{sections_differ}
+use Rattle.section_map.proofs.MapLemmas.{sections_differ}
 
 -- each key but one keeps what it had
 abbrev pub KeepsOthers : Slab Owned → Slab Owned → ℕ → Type 0
@@ -43,7 +44,7 @@ after_removal P old new key gone others was id o found = elim (cases_eq id key) 
 ]
 
 -- another number of owners
-pub AreIndexed-counted : (old new : Slab Owned) (ids : SectionIds) (key n : ℕ) (o : Owned) → get old key ≡ Some o
+pub AreIndexed-counted : (old new : Slab Owned) (ids : SectionMap ℕ) (key n : ℕ) (o : Owned) → get old key ≡ Some o
     → get new key ≡ Some (record o { owners = n }) → KeepsOthers old new key → 1 ≤ n → n ≤ most_owners
     → AreIndexed old ids → AreIndexed new ids
 AreIndexed-counted old new ids key n o was here others some few is =
@@ -52,7 +53,7 @@ AreIndexed-counted old new ids key n o was here others some few is =
       owned = after_write (λ _ o. 1 ≤ o.owners) old new key w here others some is.owned;
       counted = after_write (λ _ o. o.owners ≤ most_owners) old new key w here others few is.counted;
       listed =
-          after_write (λ id o. id_of ids (canon o.route) ≡ Some id) old new key w here others
+          after_write (λ id o. at_section ids (canon o.route) ≡ Some id) old new key w here others
           (is.listed key o was) is.listed;
       living = λ section id found. meant id ∙ is.living section id found;
     }
@@ -66,7 +67,7 @@ AreIndexed-counted old new ids key n o was here others some few is =
     ]
 
 -- one owner more
-pub AreIndexed-shared : (old new : Slab Owned) (ids : SectionIds) (key : ℕ) (o : Owned) → get old key ≡ Some o
+pub AreIndexed-shared : (old new : Slab Owned) (ids : SectionMap ℕ) (key : ℕ) (o : Owned) → get old key ≡ Some o
     → get new key ≡ Some (record o { owners = one_more o.owners }) → KeepsOthers old new key → AreIndexed old ids
     → AreIndexed new ids
 AreIndexed-shared old new ids key o was here others is =
@@ -75,10 +76,10 @@ AreIndexed-shared old new ids key o was here others is =
     AreIndexed-counted old new ids key (one_more o.owners) o was here others some few is
 
 -- a new record
-pub AreIndexed-added : (old new : Slab Owned) (ids added : SectionIds) (key : ℕ) (section : List ℕ) (route : Route)
+pub AreIndexed-added : (old new : Slab Owned) (ids added : SectionMap ℕ) (key : ℕ) (section : List ℕ) (route : Route)
     → get old key ≡ None → get new key ≡ Some (record { route = route; owners = 1 }) → KeepsOthers old new key
-    → IsCanonical section → route_of section ≡ route → None ≡ id_of ids section
-    → ChangesId ids added section (Some key) → AreIndexed old ids → AreIndexed new added
+    → IsCanonical section → route_of section ≡ route → None ≡ at_section ids section
+    → ChangesAt ids added section (Some key) → AreIndexed old ids → AreIndexed new added
 AreIndexed-added old new ids added key section route vacant here others canonical means free more is =
     let w : Owned = record { route = route; owners = 1 } in
     let whole : IsRoute route = subst IsRoute means canonical.route in
@@ -88,24 +89,24 @@ AreIndexed-added old new ids added key section route vacant here others canonica
       owned = after_write (λ _ o. 1 ≤ o.owners) old new key w here others (omega arith) is.owned;
       counted = after_write (λ _ o. o.owners ≤ most_owners) old new key w here others (lit≤ tt) is.counted;
       listed =
-          after_write (λ id o. id_of added (canon o.route) ≡ Some id) old new key w here others
-          (ap (id_of added) spelled ∙ more.changed)
+          after_write (λ id o. at_section added (canon o.route) ≡ Some id) old new key w here others
+          (ap (at_section added) spelled ∙ more.changed)
           (λ id o found. still id o (is.listed id o found));
       living = λ s id found. lives s id found spelled;
     }
   where
-    still : (id : ℕ) (o : Owned) → id_of ids (canon o.route) ≡ Some id → id_of added (canon o.route) ≡ Some id
+    still : (id : ℕ) (o : Owned) → at_section ids (canon o.route) ≡ Some id → at_section added (canon o.route) ≡ Some id
     still id o listed =
         more.others (canon o.route)
         (λ same.
-        let taken : id_of ids section ≡ Some id = ap (id_of ids) (sym same) ∙ listed in
+        let taken : at_section ids section ≡ Some id = ap (at_section ids) (sym same) ∙ listed in
         absurd (cc (free, taken)))
         ∙ listed
 
-    lives : (s : List ℕ) (id : ℕ) → id_of added s ≡ Some id → canon route ≡ section → section_at new id ≡ Some s
+    lives : (s : List ℕ) (id : ℕ) → at_section added s ≡ Some id → canon route ≡ section → section_at new id ≡ Some s
     lives s id found spelled = elim (sections_differ s section) [
       | inl same ↦
-          let one : Some id ≡ Some key = sym found ∙ ap (id_of added) same ∙ more.changed in
+          let one : Some id ≡ Some key = sym found ∙ ap (at_section added) same ∙ more.changed in
           let at : id ≡ key = cc one in
           ap (section_at new) at ∙ ap (option_map (λ o. canon o.route)) here
           ∙ ap (λ s. Some s) (spelled ∙ sym same)
@@ -119,8 +120,8 @@ AreIndexed-added old new ids added key section route vacant here others canonica
     ]
 
 -- a record is gone
-pub AreIndexed-removed : (old new : Slab Owned) (ids left : SectionIds) (key : ℕ) (o : Owned) → get old key ≡ Some o
-    → get new key ≡ None → KeepsOthers old new key → ChangesId ids left (canon o.route) None
+pub AreIndexed-removed : (old new : Slab Owned) (ids left : SectionMap ℕ) (key : ℕ) (o : Owned) → get old key ≡ Some o
+    → get new key ≡ None → KeepsOthers old new key → ChangesAt ids left (canon o.route) None
     → AreIndexed old ids → AreIndexed new left
 AreIndexed-removed old new ids left key o was gone others fewer is = record {
   routes = after_removal (λ _ o. IsRoute o.route) old new key gone others (λ id o _ found. is.routes id o found);
@@ -128,7 +129,7 @@ AreIndexed-removed old new ids left key o was gone others fewer is = record {
   counted =
       after_removal (λ _ o. o.owners ≤ most_owners) old new key gone others (λ id o _ found. is.counted id o found);
   listed =
-      after_removal (λ id o. id_of left (canon o.route) ≡ Some id) old new key gone others
+      after_removal (λ id o. at_section left (canon o.route) ≡ Some id) old new key gone others
       (λ id o apart found. still id o apart (is.listed id o found));
   living = lives;
 }
@@ -136,19 +137,19 @@ AreIndexed-removed old new ids left key o was gone others fewer is = record {
     section : List ℕ
     section = canon o.route
 
-    still : (id : ℕ) (w : Owned) → id ≢ key → id_of ids (canon w.route) ≡ Some id → id_of left (canon w.route) ≡ Some id
+    still : (id : ℕ) (w : Owned) → id ≢ key → at_section ids (canon w.route) ≡ Some id → at_section left (canon w.route) ≡ Some id
     still id w apart listed =
         fewer.others (canon w.route)
         (λ same.
-        let one : Some key ≡ Some id = sym (is.listed key o was) ∙ ap (id_of ids) (sym same) ∙ listed in
+        let one : Some key ≡ Some id = sym (is.listed key o was) ∙ ap (at_section ids) (sym same) ∙ listed in
         let at : key ≡ id = cc one in
         absurd (apart (sym at)))
         ∙ listed
 
-    lives : (s : List ℕ) (id : ℕ) → id_of left s ≡ Some id → section_at new id ≡ Some s
+    lives : (s : List ℕ) (id : ℕ) → at_section left s ≡ Some id → section_at new id ≡ Some s
     lives s id found = elim (sections_differ s section) [
       | inl same ↦
-          let none : id_of left s ≡ None = ap (id_of left) same ∙ fewer.changed in
+          let none : at_section left s ≡ None = ap (at_section left) same ∙ fewer.changed in
           absurd (cc (none, found))
       | inr apart ↦
           let old_one = is.living s id (sym (fewer.others s apart) ∙ found) in
@@ -160,20 +161,21 @@ AreIndexed-removed old new ids left key o was gone others fewer is = record {
           ap (option_map (λ o. canon o.route)) (others id at) ∙ old_one
     ]
 
--- a slab in which each key finds the same
-pub AreIndexed-same : (old new : Slab Owned) (ids : SectionIds) → ((key : ℕ) → get new key ≡ get old key)
-    → AreIndexed old ids → AreIndexed new ids
-AreIndexed-same old new ids same is = record {
+-- a slab in which each key finds the same, and each section
+pub AreIndexed-same : (old new : Slab Owned) (ids after : SectionMap ℕ) → ((key : ℕ) → get new key ≡ get old key)
+    → SameSections ids after → AreIndexed old ids → AreIndexed new after
+AreIndexed-same old new ids after same sections is = record {
   routes = λ id o found. is.routes id o (sym (same id) ∙ found);
   owned = λ id o found. is.owned id o (sym (same id) ∙ found);
   counted = λ id o found. is.counted id o (sym (same id) ∙ found);
-  listed = λ id o found. is.listed id o (sym (same id) ∙ found);
-  living = λ s id found. ap (option_map (λ o. canon o.route)) (same id) ∙ is.living s id found;
+  listed = λ id o found. sections (canon o.route) ∙ is.listed id o (sym (same id) ∙ found);
+  living = λ s id found.
+      ap (option_map (λ o. canon o.route)) (same id) ∙ is.living s id (sym (sections s) ∙ found);
 }
 
 -- without records
-pub AreIndexed-empty : (slab : Slab Owned) (ids : SectionIds) → slab.slots ≡ []
-    → ((section : List ℕ) → id_of ids section ≡ None) → AreIndexed slab ids
+pub AreIndexed-empty : (slab : Slab Owned) (ids : SectionMap ℕ) → slab.slots ≡ []
+    → ((section : List ℕ) → at_section ids section ≡ None) → AreIndexed slab ids
 AreIndexed-empty slab ids empty unlisted = record {
   routes = λ id o found. absurd (cc (none id, found));
   owned = λ id o found. absurd (cc (none id, found));
@@ -196,8 +198,8 @@ pub record IsMeant (slab : Slab Owned) (key : ℕ) (route : Route) : Type 0 wher
   pub there : get slab key ≡ Some shared
   pub means : shared.route ≡ route
 
-pub IsMeant-found : (slab : Slab Owned) (ids : SectionIds) (section : List ℕ) (key : ℕ) (route : Route)
-    → AreIndexed slab ids → route_of section ≡ route → Some key ≡ id_of ids section
+pub IsMeant-found : (slab : Slab Owned) (ids : SectionMap ℕ) (section : List ℕ) (key : ℕ) (route : Route)
+    → AreIndexed slab ids → route_of section ≡ route → Some key ≡ at_section ids section
     → IsMeant slab key route
 IsMeant-found slab ids section key route is means found =
     let some = some_of (λ (o : Owned). canon o.route) (get slab key) section (is.living section key (sym found)) in
@@ -208,15 +210,15 @@ IsMeant-found slab ids section key route is means found =
     }
 
 -- a route that lives is listed by its section
-pub listed_by_route : (slab : Slab Owned) (ids : SectionIds) (id : ℕ) (route : Route) → AreIndexed slab ids
-    → route_at (entries slab) id ≡ Some route → id_of ids (canon route) ≡ Some id
+pub listed_by_route : (slab : Slab Owned) (ids : SectionMap ℕ) (id : ℕ) (route : Route) → AreIndexed slab ids
+    → route_at (entries slab) id ≡ Some route → at_section ids (canon route) ≡ Some id
 listed_by_route slab ids id route is lives =
     let some = some_of (λ (o : Owned). o.route) (record_at (entries slab) id) route lives in
-    ap (λ r. id_of ids (canon r)) (sym some.2)
+    ap (λ r. at_section ids (canon r)) (sym some.2)
     ∙ is.listed id some.0 (sym (value_at-entries slab id) ∙ some.1)
 
 -- what callers know of the records
-pub ArePooled-entries : (slab : Slab Owned) (ids : SectionIds) → AreIndexed slab ids → ArePooled (entries slab)
+pub ArePooled-entries : (slab : Slab Owned) (ids : SectionMap ℕ) → AreIndexed slab ids → ArePooled (entries slab)
 ArePooled-entries slab ids is = record {
   rising = IsRising-entries slab;
   routes = λ id o found. is.routes id o (sym (value_at-entries slab id) ∙ found);

@@ -1,5 +1,4 @@
 pub mod LookupLemmas
-pub mod IdsLemmas
 pub mod EntriesLemmas
 pub mod FieldsLemmas
 pub mod KeptLemmas

@@ -1,12 +1,12 @@
 -- Finite maps as entries by rising key: what a look-up finds after a write and a removal, that look-ups tell maps
--- apart, and maps whose keys are read by a function.
+-- apart.
 use Rattle.std.proofs.Common.{◌≡◌, ◌≢◌, Bool, true, false, List, [], ◌∷◌, Some, None, cond}
 use Rattle.std.proofs.Common.{refl}
 use Rattle.std.proofs.Common.{sym, ap, ◌∙◌}
 use Rattle.std.specs.Cmp.{IsTotalOrder}
-use Rattle.std.specs.BTreeMap.{insert_entry, is_at}
-use Rattle.std.specs.Map.{keys_of, lookup, remove_entry}
-use Rattle.std.specs.Ordering.{is_eq, match_ordering, ordering_reverse, eq_by_cmp}
+use Rattle.std.specs.BTreeMap.{is_at}
+use Rattle.std.specs.Map.{keys_of}
+use Rattle.std.specs.Ordering.{is_eq, ordering_reverse, eq_by_cmp}
 use Rattle.std.specs.declared.cmp.Ordering.{Ordering}
 use Rattle.std.specs.declared.cmp.Ordering.TheVariants.{Less, Equal, Greater}
 use Rattle.std.proofs.lemmas.Cmp.{tied_itself, eq_by_cmp_equiv}
@@ -15,7 +15,6 @@ use Rattle.std.proofs.lemmas.Map.Keys.{IsDistinct-from_sorted}
 use Rattle.xb_words.specs.Table.{value_at, with_value, without, IsRising}
 use Rattle.xb_words.proofs.TableSplitLemmas.{IsRising-head, IsRising-tail, Each-trans, Each-congr, value_at-above}
 use Rattle.xb_words.proofs.TableSplitLemmas.{less_from_greater}
-use Rattle.attr_intern.specs.Ids.{entries_by}
 
 pub by_ordering : {P : Type 0} (r : Ordering) → (r ≡ Less → P) → (r ≡ Equal → P) → (r ≡ Greater → P) → P
 by_ordering Less l e g = l refl
@@ -96,36 +95,3 @@ module _ {K X : Type 0} (c : K → K → Ordering) (o : IsTotalOrder c) where
       (λ q. rest_found e f es fs q r s t (ap (c q) key) (same q)) in
       joined e.0 f.0 e.1 f.1 es fs key (cc value) rest)
       (λ g. sym (missed f e fs es r (less_from_greater c o f.0 e.0 g) (sym (same f.0))))
-
-module _ {K B X : Type 0} (f : K → B) (c : B → B → Ordering) where
-  -- a look-up by what is read of the keys
-  pub value_at-entries_by : (es : List (K × X)) (q : B)
-      → value_at c (entries_by f es) q ≡ lookup (is_at (λ k. c q (f k))) es
-  value_at-entries_by [] q = refl
-  value_at-entries_by (e ∷ es) q = cond-both (is_eq (c q (f e.0))) (Some e.1) _ _ (value_at-entries_by es q)
-
-  by_match : (r : Ordering) (xs ys zs : List (K × X))
-      → entries_by f (match_ordering r xs ys zs)
-      ≡ match_ordering r (entries_by f xs) (entries_by f ys) (entries_by f zs)
-  by_match Less xs ys zs = refl
-  by_match Equal xs ys zs = refl
-  by_match Greater xs ys zs = refl
-
-  -- a write, read
-  pub entries_by-insert_entry : (es : List (K × X)) (k : K) (v : X)
-      → entries_by f (insert_entry (λ x y. c (f x) (f y)) es k v) ≡ with_value c (entries_by f es) (f k) v
-  entries_by-insert_entry [] k v = refl
-  entries_by-insert_entry (e ∷ es) k v =
-      by_match (c (f k) (f e.0)) _ _ _ ∙ rw (entries_by-insert_entry es k v) refl
-
-  by_cond : (b : Bool) (xs ys : List (K × X))
-      → entries_by f (cond b xs ys) ≡ cond b (entries_by f xs) (entries_by f ys)
-  by_cond true xs ys = refl
-  by_cond false xs ys = refl
-
-  -- a removal, read
-  pub entries_by-remove_entry : (es : List (K × X)) (q : B)
-      → entries_by f (remove_entry (is_at (λ k. c q (f k))) es) ≡ without c (entries_by f es) q
-  entries_by-remove_entry [] q = refl
-  entries_by-remove_entry (e ∷ es) q =
-      by_cond (is_eq (c q (f e.0))) _ _ ∙ rw (entries_by-remove_entry es q) refl

@@ -9,7 +9,8 @@ use Rattle.slab.specs.Slab.{Slab, get, entries}
 use Rattle.xb_words.specs.Table.{with_value, without}
 use Rattle.xb_words.proofs.TableLemmas.{value_at-with_value}
 use Rattle.bgp_attr.specs.Routes.{Route, canon}
-use Rattle.attr_intern.specs.Ids.{SectionIds, id_of}
+use Rattle.section_map.specs.Sections.{at_section}
+use Rattle.section_map.specs.declared.map.SectionMap.{SectionMap}
 use Rattle.attr_intern.specs.Kept.{AreIndexed}
 use Rattle.attr_intern.specs.Pools.{Owned, Records, interned, most_owners, one_fewer, one_more, owners_at, owners_of}
 use Rattle.attr_intern.specs.Pools.{record_at, released, route_at, with_record}
@@ -83,8 +84,8 @@ module _ {s : Slab Owned} {records : Records} {key id : ℕ} (has : HasRecords s
       ap (with_record records id) (sym fewer ∙ ap one_fewer (sym was ∙ get-record_at))
 
   -- a route that lives under another id has its section there
-  pub listed_elsewhere : (ids : SectionIds) (other : ℕ) (route : Route) → AreIndexed s ids
-      → route_at records other ≡ Some route → id_of ids (canon route) ≡ Some other
+  pub listed_elsewhere : (ids : SectionMap ℕ) (other : ℕ) (route : Route) → AreIndexed s ids
+      → route_at records other ≡ Some route → at_section ids (canon route) ≡ Some other
   listed_elsewhere ids other route is lives =
       listed_by_route s ids other route is (ap (λ r. route_at r other) has.all ∙ lives)
 

@@ -6,22 +6,17 @@
 //! [`release`](Pool::release) one fewer; with its last owner a record is gone. The count of owners stays at 2^64 - 1
 //! once it is there, and then the record is never given up.
 //!
-//! Records stand in a slab, under the key that is their id. A route is looked up by its canonical section, which is
-//! written to a buffer of the pool, and first by the sum of that section, a number of 64 bits. An ordered map has the
-//! first section of each sum with its id; the others, whose sum another has, are in an ordered map by section. So an id
-//! that is found takes no memory, the comparison of one section, and as many comparisons of numbers as the logarithm of
-//! the number of records; if sections were chosen to have one sum, as many comparisons of sections, and no more. A
-//! record keeps its canonical section in one piece, and where each attribute stands in it.
+//! Records are in a slab, under the key that is their id. A route is looked up by its canonical section, which is
+//! written to a buffer of the pool, in a map from sections to ids (`section_map`); an id that is found takes no memory.
+//! A record keeps its canonical section in one piece, and where each attribute is in it.
 //!
 //! Contracts see a pool as a finite map from ids to routes and counts of owners (`specs/Pools`). Who owns what is not
 //! here.
 #![tactic(auto)]
 
 mod id;
-mod ids;
 mod pool;
 mod record;
-mod sum;
 
 pub use id::RecordId;
 pub use pool::Pool;

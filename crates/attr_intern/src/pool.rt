@@ -2,22 +2,23 @@
 ghost use Rattle.std.specs.Prelude.{◌≡◌, ◌≢◌, ℕ, ◌≤◌, [], length, Some, None, IfOk, IfSome, OnOk, OnErr, IsSome};
 ghost use Rattle.bgp_attr.specs.Routes.{canon, route_of};
 ghost use Rattle.xbgp_view.specs.Sections.{IsCanonical};
+ghost use Rattle.section_map.specs.Sections.{ChangesAt, SameSections, at_section};
 ghost use Rattle.slab.specs.Slab.{get, ContainsKey, SameValues, Updates};
-ghost use Rattle.attr_intern.specs.Ids.{ChangesId, id_of};
 ghost use Rattle.attr_intern.specs.Kept.{AreIndexed};
 ghost use Rattle.attr_intern.specs.Pools.{Owned, interned, one_more, owners_at, record_at, released, route_at};
 ghost use Rattle.attr_intern.specs.Pools.{ArePooled};
-ghost use Rattle.attr_intern.specs.Sums.{sum_of};
 
-use crate::ids::Ids;
-use crate::sum::sum_of;
 use crate::{Record, RecordId};
 use bgp_attr::MAX_CANONICAL;
+use section_map::SectionMap;
 use slab::Slab;
 use std::alloc::{AllocError, Global};
 use std::marker::Model;
 use xb_values::Buf;
 use xbgp_view::{RouteView, write_section};
+
+// The id of each living record, by its canonical section.
+type Ids = SectionMap<usize>;
 
 // A record with the number of its owners, which is at least 1. It stays at `u64::MAX` once it is there.
 #[derive(Drop)]
@@ -89,30 +90,34 @@ fn add_owner(shared: &mut Slab<Shared>, key: usize)
     set_owners(shared, key, owners.saturating_add(1));
 }
 
-// A new record with one owner, of the route that a view shows, whose canonical section is `section`, with its sum. The
-// error is want of memory; then nothing changed.
+// The id of a canonical section, if it has one.
+fn id_of(ids: &Ids, section: &[u8]) -> Option<usize>
+    ensures { result ≡ at_section ids.now section.now }
+{
+    ids.get(section).copied()
+}
+
+// A new record with one owner, of the route that a view shows, whose canonical section is `section`. The error is want of memory; then nothing changed.
 fn add_record<R: RouteView>(
     alloc: Global,
     view: &R,
     section: &[u8],
-    sum: u64,
     shared: &mut Slab<Shared>,
     ids: &mut Ids,
 ) -> Result<usize, AllocError>
     requires canonical { IsCanonical section.now }
     requires route { route_of section.now ≡ R.route view.now }
-    requires sum { sum ≡ sum_of section.now }
-    requires new { id_of ids.old section.now ≡ None }
+    requires new { at_section ids.old section.now ≡ None }
     ensures vacant { IfOk result (λ key. get shared.old key ≡ None) }
     ensures record { IfOk result (λ key.
         Updates shared.old shared.new key (Some (record { route = R.route view.now; owners = 1 }))) }
-    ensures id { IfOk result (λ key. ChangesId ids.old ids.new section.now (Some key)) }
+    ensures id { IfOk result (λ key. ChangesAt ids.old ids.new section.now (Some key)) }
     ensures err_records { OnErr result (SameValues shared.old shared.new) }
-    ensures err_ids { OnErr result (ids.new ≡ ids.old) }
+    ensures err_ids { OnErr result (SameSections ids.old ids.new) }
 {
     let record = Record::copy_of(alloc, view, section)?;
     shared.reserve(1)?;
-    ids.insert(section, sum, shared.vacant_key())?;
+    ids.insert(section, shared.vacant_key())?;
     Ok(shared.insert_reserved(Shared { record, owners: 1 }))
 }
 
@@ -120,7 +125,7 @@ fn add_record<R: RouteView>(
 fn remove_record(shared: &mut Slab<Shared>, key: usize, ids: &mut Ids)
     requires { ContainsKey shared.old key }
     ensures record { Updates shared.old shared.new key None }
-    ensures id { (o : Owned) → get shared.old key ≡ Some o → ChangesId ids.old ids.new (canon o.route) None }
+    ensures id { (o : Owned) → get shared.old key ≡ Some o → ChangesAt ids.old ids.new (canon o.route) None }
 {
     let removed = shared.remove(key);
     ids.remove(removed.record.section());
@@ -151,19 +156,11 @@ impl Pool {
     {
         write_section(view, &mut self.section);
         let section = self.section.as_slice();
-        let sum = sum_of(section);
-        if let Some(key) = self.ids.get(section, sum) {
+        if let Some(key) = id_of(&self.ids, section) {
             add_owner(&mut self.shared, key);
             return Ok(RecordId::new(key));
         }
-        let key = add_record(
-            self.alloc,
-            view,
-            section,
-            sum,
-            &mut self.shared,
-            &mut self.ids,
-        )?;
+        let key = add_record(self.alloc, view, section, &mut self.shared, &mut self.ids)?;
         Ok(RecordId::new(key))
     }
 

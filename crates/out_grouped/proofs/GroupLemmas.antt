@@ -1,17 +1,12 @@
 -- Groups by section after a change of one of them, and after a change of the slots.
-use Rattle.std.proofs.Common.{◌≡◌, ℕ, Bool, true, false, inl, inr, List, [], ◌∷◌, Option, Some, None, Vec, refl, sym}
-use Rattle.std.proofs.Common.{◌∙◌, ap, subst, cond, length, arith, rules}
-use Rattle.std.specs.Option.{IfSome, IsSome, option_and_then}
-use Rattle.std.specs.BTreeMap.{get_by, is_at, UpdatesBy}
+use Rattle.std.proofs.Common.{◌≡◌, ℕ, Bool, true, false, inl, inr, List, [], ◌∷◌, Option, Some, None, refl, sym}
+use Rattle.std.proofs.Common.{◌∙◌, ap, subst, cond, length, arith}
+use Rattle.std.specs.Option.{IfSome, OnSome, option_and_then}
+use Rattle.std.specs.BTreeMap.{is_at}
 use Rattle.std.specs.BTreeSet.{BTreeSet, insert_key}
 use Rattle.std.specs.Cmp.{eq_by_cmp_equiv}
-use Rattle.std.specs.Cmp.Lexicographic.{slice_cmp}
-use Rattle.std.specs.Map.{KeepsOthers}
-use Rattle.std.specs.Ordering.{is_eq, nat_cmp}
 use Rattle.std.specs.Set.{remove_key}
 use Rattle.std.specs.Str.{bytes_eq}
-use Rattle.std.specs.declared.alloc.Global.{Global}
-use Rattle.std.specs.declared.cmp.Ordering.{Ordering}
 use Rattle.std.proofs.lemmas.Bool.{cases_Bool}
 use Rattle.std.proofs.lemmas.Cmp.{nat_list_cmp_total, tied_itself}
 use Rattle.std.proofs.lemmas.Map.Text.{is_eq-slice_cmp}
@@ -19,6 +14,7 @@ use Rattle.std.proofs.lemmas.Slice.Eq.{bytes_eq-Decides}
 use Rattle.xb_words.specs.Table.{value_at, with_value, IsRising}
 use Rattle.xb_values.specs.Prefixes.{Prefix, prefix_cmp}
 use Rattle.xb_values.proofs.PrefixLemmas.{prefix_total}
+use Rattle.section_map.specs.Sections.{ChangesAt, at_section}
 use Rattle.bgp_write.specs.Pending.{same_section}
 use Rattle.bgp_write.proofs.SetLemmas.{by_ordering}
 use Rattle.out_grouped.specs.Slots.{Slot, Slots, advertised, is_fresh, keys_where, taken_back, waited, waiting}
@@ -27,95 +23,59 @@ use Rattle.out_grouped.specs.Groups.{Grouping, group_at, members, AreSame, IsGro
 use Rattle.out_grouped.proofs.SlotLemmas.{keys_where-written, keys_where-removed}
 use Rattle.out_grouped.proofs.SlotLemmas.{keys_where-with_value-same, keys_where-without-same}
 
--- how a query by a section compares to the sections of groups, and these to each other
-abbrev pub at_section : List ℕ → Vec ℕ Global → Ordering
-at_section s k = slice_cmp nat_cmp s k.items
-
-abbrev pub section_cmp : Vec ℕ Global → Vec ℕ Global → Ordering
-section_cmp a b = slice_cmp nat_cmp a.items b.items
-
 pub same_bytes : (s t : List ℕ) → bytes_eq s t ≡ true → s ≡ t
 same_bytes s t same = (bytes_eq-Decides s t).0 same
 
-other_bytes : (s t k : List ℕ) → bytes_eq s t ≡ false → bytes_eq s k ≡ true → bytes_eq t k ≡ false
-other_bytes s t k other same =
-    let eq = eq_by_cmp_equiv nat_list_cmp_total in
-    let back : bytes_eq t s ≡ bytes_eq s t =
-    sym (is_eq-slice_cmp t s) ∙ eq.symm t s ∙ is_eq-slice_cmp s t in
-    ap (bytes_eq t) (sym (same_bytes s k same)) ∙ back ∙ other
-
-apart_sections : (s t k : List ℕ) → bytes_eq s t ≡ false → is_eq (slice_cmp nat_cmp s k) ≡ true
-    → is_eq (slice_cmp nat_cmp t k) ≡ false
-apart_sections s t k other same =
-    is_eq-slice_cmp t k ∙ other_bytes s t k other (sym (is_eq-slice_cmp s k) ∙ same)
-
--- a query after a change at a section
-get_by-updated : (old new : Grouping) (s t : List ℕ) (w : Option (BTreeSet Prefix))
-    → UpdatesBy section_cmp (at_section s) old new w
-    → get_by (at_section t) new ≡ cond (bytes_eq s t) w (get_by (at_section t) old)
-unfolding KeepsOthers
-get_by-updated old new s t w updates = elim (cases_Bool (bytes_eq s t)) [
-  | inl same ↦
-      let here = subst (λ (u : List ℕ). get_by (at_section u) new ≡ w) (same_bytes s t same) updates.1 in
-      rw same here
-  | inr other ↦
-      let eq = eq_by_cmp_equiv nat_list_cmp_total in
-      let rest = updates.3 (is_at (at_section t)) (λ x y. eq.congr t x.items y.items)
-      (λ k. apart_sections s t k.items other) in
-      rw other rest
-]
-
 -- the groups after a change of one
 pub group_at-updated : (f : List Prefix → List Prefix) (old new : Grouping) (s : List ℕ)
-    (w : Option (BTreeSet Prefix)) → UpdatesBy section_cmp (at_section s) old new w
-    → members w ≡ f (group_at old s) → (t : List ℕ)
+    (w : Option (BTreeSet Prefix)) → ChangesAt old new s w → members w ≡ f (group_at old s) → (t : List ℕ)
     → group_at new t ≡ cond (bytes_eq s t) (f (group_at old t)) (group_at old t)
-group_at-updated f old new s w updates is t =
-    ap members (get_by-updated old new s t w updates) ∙ elim (cases_Bool (bytes_eq s t)) [
-      | inl same ↦ rw same (is ∙ ap (λ u. f (group_at old u)) (same_bytes s t same))
-      | inr other ↦ rw other refl
-    ]
+group_at-updated f old new s w changes is t = elim (cases_Bool (bytes_eq s t)) [
+  | inl same ↦
+      let one = same_bytes s t same in
+      rw same (ap (group_at new) (sym one) ∙ ap members changes.changed ∙ is ∙ ap (λ u. f (group_at old u)) one)
+  | inr other ↦
+      rw other (ap members (changes.others t
+      (λ one. absurd (cc (other, (bytes_eq-Decides s t).1 (sym one))))))
+]
 
 both_same : {A : Type 0} (b : Bool) (x : A) → cond b x x ≡ x
 both_same true x = refl
 both_same false x = refl
 
-is_some_from : {A : Type 0} (o : Option A) (x : A) → o ≡ Some x → IsSome o
-is_some_from None x is = absurd (cc is)
-is_some_from (Some y) x is = search rules
+-- what holds if a value is lent holds once one is
+pub when_lent : {A : Type 0} (o : Option A) (x : A) (P : Type 0) → OnSome o P → o ≡ Some x → P
+when_lent None x P holds is = absurd (cc is)
+when_lent (Some y) x P holds is = holds
 
 -- and of one that a map lends
 pub group_at-lent : (f : List Prefix → List Prefix) (old new : Grouping) (s : List ℕ) (group changed : BTreeSet Prefix)
-    → get_by (at_section s) old ≡ Some group → changed.keys ≡ f group.keys
-    → (IsSome (get_by (at_section s) old) → UpdatesBy section_cmp (at_section s) old new (Some changed)) → (t : List ℕ)
+    → at_section old s ≡ Some group → changed.keys ≡ f group.keys → ChangesAt old new s (Some changed) → (t : List ℕ)
     → group_at new t ≡ cond (bytes_eq s t) (f (group_at old t)) (group_at old t)
-group_at-lent f old new s group changed there is updates t =
-    group_at-updated f old new s (Some changed) (updates (is_some_from (get_by (at_section s) old) group there))
-    (is ∙ ap f (sym (ap members there))) t
+group_at-lent f old new s group changed there is changes t =
+    group_at-updated f old new s (Some changed) changes (is ∙ ap f (sym (ap members there))) t
 
 pub AreSame-lent : (old new : Grouping) (s : List ℕ) (group changed : BTreeSet Prefix)
-    → get_by (at_section s) old ≡ Some group → changed.keys ≡ group.keys
-    → (IsSome (get_by (at_section s) old) → UpdatesBy section_cmp (at_section s) old new (Some changed))
+    → at_section old s ≡ Some group → changed.keys ≡ group.keys → ChangesAt old new s (Some changed)
     → AreSame old new
-AreSame-lent old new s group changed there is updates t =
-    group_at-lent (λ ks. ks) old new s group changed there is updates t ∙ both_same (bytes_eq s t) (group_at old t)
+AreSame-lent old new s group changed there is changes t =
+    group_at-lent (λ ks. ks) old new s group changed there is changes t ∙ both_same (bytes_eq s t) (group_at old t)
 
 no_length : {A : Type 0} (xs : List A) → length xs ≡ 0 → xs ≡ []
 no_length [] is = refl
 no_length (x ∷ xs) is = absurd (cc is)
 
 -- a group without prefixes may go
-pub AreSame-removed : (old new : Grouping) (s : List ℕ) → UpdatesBy section_cmp (at_section s) old new None
-    → group_at old s ≡ [] → AreSame old new
-AreSame-removed old new s updates empty t =
-    group_at-updated (λ ks. ks) old new s None updates (sym empty) t ∙ both_same (bytes_eq s t) (group_at old t)
+pub AreSame-removed : (old new : Grouping) (s : List ℕ) → ChangesAt old new s None → group_at old s ≡ []
+    → AreSame old new
+AreSame-removed old new s changes empty t =
+    group_at-updated (λ ks. ks) old new s None changes (sym empty) t ∙ both_same (bytes_eq s t) (group_at old t)
 
 -- an empty group may go
-pub AreSame-updated : (old new : Grouping) (s : List ℕ) (group : BTreeSet Prefix)
-    → UpdatesBy section_cmp (at_section s) old new None → get_by (at_section s) old ≡ Some group
-    → length group.keys ≡ 0 → AreSame old new
-AreSame-updated old new s group updates there empty =
-    AreSame-removed old new s updates (ap members there ∙ no_length group.keys empty)
+pub AreSame-updated : (old new : Grouping) (s : List ℕ) (group : BTreeSet Prefix) → ChangesAt old new s None
+    → at_section old s ≡ Some group → length group.keys ≡ 0 → AreSame old new
+AreSame-updated old new s group changes there empty =
+    AreSame-removed old new s changes (ap members there ∙ no_length group.keys empty)
 
 -- whether a prefix waits with a section, by its slot
 passes_not : (o : Option Slot) (t : List ℕ) → same_section (waited o) (Some t) ≡ false

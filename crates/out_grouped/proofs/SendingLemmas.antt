@@ -3,9 +3,9 @@ use Rattle.std.proofs.Common.{◌≡◌, ℕ, ◌+◌, ◌-◌, ◌<◌, ◌≤�
 use Rattle.std.proofs.Common.{Some, None, refl, sym, ◌∙◌, ap, subst, length, fold, flat_map, is_some, is_none, not}
 use Rattle.std.proofs.Common.{nat_lt, ◌||◌, ◌&&◌, arith, length-append, append_assoc, append-nil, if◌then◌else◌}
 use Rattle.std.proofs.Common.{IsTrue, cond}
-use Rattle.std.specs.BTreeMap.{get_by, is_at, UpdatesBy}
+use Rattle.std.specs.BTreeMap.{is_at}
 use Rattle.std.specs.BTreeSet.{BTreeSet}
-use Rattle.std.specs.Option.{IfSome, IsSome, option_and_then}
+use Rattle.std.specs.Option.{IfSome, option_and_then}
 use Rattle.std.specs.Set.{remove_key}
 use Rattle.std.specs.Str.{bytes_eq}
 use Rattle.std.proofs.lemmas.Bool.{cases_Bool, cases_lt, lt-ltb, le-ltb}
@@ -23,8 +23,9 @@ use Rattle.out_grouped.specs.Slots.{Slot, Slots, IsSlot, IsSound, IsOther, Keeps
 use Rattle.out_grouped.specs.Slots.{is_fresh, is_gone, waits_with}
 use Rattle.out_grouped.specs.Sending.{announcement_from, announcement_of, formed_by, withdrawal_from, withdrawal_of}
 use Rattle.out_grouped.specs.Sending.{to_announce, to_withdraw}
+use Rattle.section_map.specs.Sections.{ChangesAt, at_section}
 use Rattle.out_grouped.specs.Groups.{Grouping, IsGrouped}
-use Rattle.out_grouped.proofs.GroupLemmas.{at_section, group_at-lent, same_bytes, section_cmp}
+use Rattle.out_grouped.proofs.GroupLemmas.{group_at-lent, same_bytes}
 use Rattle.out_grouped.proofs.SlotLemmas.{part-with_value-some, part-with_value-same, part-without}
 use Rattle.out_grouped.proofs.SlotLemmas.{part-without-same, first-where, keys_where-with_value, keys_where-written}
 use Rattle.out_grouped.proofs.SlotLemmas.{keys_where-without, keys_where-with_value-same, keys_where-without-same}
@@ -436,11 +437,11 @@ others-kept s t old new apart keeps = keeps.others (waits_with t) (record {
 
 -- the groups after an announcement
 pub IsGrouped-announced : (old new : Grouping) (es after : Slots) (s : List ℕ) (group changed : BTreeSet Prefix)
-    → get_by (at_section s) old ≡ Some group → changed.keys ≡ keys_where (waits_with s) after
-    → (IsSome (get_by (at_section s) old) → UpdatesBy section_cmp (at_section s) old new (Some changed))
+    → at_section old s ≡ Some group → changed.keys ≡ keys_where (waits_with s) after
+    → ChangesAt old new s (Some changed)
     → IsGrouped old es → Keeps (waits_with s) es after → IsGrouped new after
-IsGrouped-announced old new es after s group changed there is updates grouped keeps t =
-    group_at-lent (λ ks. keys_where (waits_with s) after) old new s group changed there is updates t
+IsGrouped-announced old new es after s group changed there is changes grouped keeps t =
+    group_at-lent (λ ks. keys_where (waits_with s) after) old new s group changed there is changes t
     ∙ elim (cases_Bool (bytes_eq s t)) [
       | inl same ↦ rw same (ap (λ (u : List ℕ). keys_where (waits_with u) after) (same_bytes s t same))
       | inr other ↦ rw other (grouped t ∙ sym (others-kept s t es after other keeps))

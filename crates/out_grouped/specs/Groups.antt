@@ -1,12 +1,11 @@
 -- (for the private fields of `GroupedOut`) The prefixes that wait to be announced, by the section that they wait with.
-use Rattle.std.specs.Prelude.{◌≡◌, ℕ, List, [], Option, Some, None, Vec, if◌then◌else◌}
-use Rattle.std.specs.BTreeMap.{BTreeMap, get_by, is_at}
+use Rattle.std.specs.Prelude.{◌≡◌, ℕ, List, [], Option, Some, None, if◌then◌else◌}
+use Rattle.std.specs.BTreeMap.{is_at}
 use Rattle.std.specs.BTreeSet.{BTreeSet, insert_key}
-use Rattle.std.specs.Cmp.Lexicographic.{slice_cmp}
-use Rattle.std.specs.Ordering.{nat_cmp}
 use Rattle.std.specs.Set.{remove_key}
-use Rattle.std.specs.declared.alloc.Global.{Global}
 use Rattle.xb_values.specs.Prefixes.{Prefix, prefix_cmp}
+use Rattle.section_map.specs.Sections.{at_section}
+use Rattle.section_map.specs.declared.map.SectionMap.{SectionMap}
 use Rattle.bgp_write.specs.Pending.{same_section}
 use Rattle.out_grouped.specs.Slots.{Slots, IsSound, waits_with, keys_where, is_gone, is_fresh}
 use Rattle.out_grouped.specs.Waits.{Has}
@@ -14,7 +13,7 @@ use Rattle.out_grouped.specs.declared.waiting.Waiting.{Waiting}
 
 -- a set of prefixes for each section
 abbrev pub Grouping : Type 0
-Grouping = BTreeMap (Vec ℕ Global) (BTreeSet Prefix)
+Grouping = SectionMap (BTreeSet Prefix)
 
 -- the prefixes of a set that may be absent
 abbrev pub members : Option (BTreeSet Prefix) → List Prefix
@@ -23,7 +22,7 @@ members (Some group) = group.keys
 
 -- the prefixes that wait with a section
 abbrev pub group_at : Grouping → List ℕ → List Prefix
-group_at groups s = members (get_by (λ k. slice_cmp nat_cmp s k.items) groups)
+group_at groups s = members (at_section groups s)
 
 -- groups have the same prefixes; an empty one may be gone
 abbrev pub AreSame : Grouping → Grouping → Type 0

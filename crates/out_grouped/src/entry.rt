@@ -35,8 +35,8 @@ impl Model for Entry {
     ghost invariant = { λ e. IsApart e.section.items e.state };
 }
 
-/// A copy of a section. The error is want of memory.
-pub(crate) fn copy_of(alloc: Global, section: &[u8]) -> Result<Vec<u8>, AllocError>
+// A copy of a section. The error is want of memory.
+fn copy_of(alloc: Global, section: &[u8]) -> Result<Vec<u8>, AllocError>
     ensures { IfOk result (λ v. v.items ≡ section.now) }
 {
     section.to_vec(alloc)

@@ -1,23 +1,21 @@
 // The prefixes that wait to be announced, by the section that they wait with.
 ghost use Rattle.std.specs.Prelude.{◌≡◌, [], Some, None, OnOk, OnErr};
 ghost use Rattle.std.specs.Bool.{OnTrue};
-ghost use Rattle.std.specs.BTreeMap.{get_by};
-ghost use Rattle.std.specs.Cmp.Lexicographic.{slice_cmp};
 ghost use Rattle.std.specs.Option.{option_map};
-ghost use Rattle.std.specs.Ordering.{nat_cmp};
 ghost use Rattle.xb_words.specs.Table.{first_of as first_in};
+ghost use Rattle.section_map.specs.Sections.{at_section};
 ghost use Rattle.out_grouped.specs.Groups.{group_at, Joins, Leaves, AreSame};
 
-use crate::entry::copy_of;
+use section_map::SectionMap;
 use std::alloc::{AllocError, Global};
-use std::collections::{BTreeMap, BTreeSet};
+use std::collections::BTreeSet;
 use xb_values::Prefix;
 
 /// The prefixes that wait with one section.
 pub(crate) type Group = BTreeSet<Prefix>;
 
 /// A group for each section with which any prefix waits.
-pub(crate) type Groups = BTreeMap<Vec<u8>, Group>;
+pub(crate) type Groups = SectionMap<Group>;
 
 /// The first prefix of a group.
 pub(crate) fn first_of(group: &Group) -> Option<Prefix>
@@ -33,15 +31,13 @@ fn begin(
     section: &[u8],
     prefix: Prefix,
 ) -> Result<(), AllocError>
-    requires { get_by (λ k. slice_cmp nat_cmp section.now k.items) groups.old ≡ None }
+    requires { at_section groups.old section.now ≡ None }
     ensures ok { OnOk result (Joins groups.old groups.new (Some section.now) prefix) }
     ensures err { OnErr result (AreSame groups.old groups.new) }
 {
-    let section = copy_of(alloc, section)?;
     let mut group = BTreeSet::new(alloc);
     let _ = group.insert(prefix)?;
-    let _ = groups.insert(section, group)?;
-    Ok(())
+    groups.insert(section, group)
 }
 
 // A prefix joins the group of a section. The error is want of memory; then nothing changed.
@@ -83,7 +79,7 @@ pub(crate) fn drop_empty(groups: &mut Groups, section: &[u8])
 {
     if let Some(group) = groups.get(section) {
         if group.is_empty() {
-            let _ = groups.remove(section);
+            groups.remove(section);
         }
     }
 }

@@ -8,9 +8,10 @@
 //!
 //! The table is one ordered map whose entries each hold a section, or two if the peer was told another one than is
 //! advertised. Beside it are the set of the prefixes that wait to be withdrawn, the set of those that wait to be
-//! announced, and the latter once more as one set for each section. So a message visits only the prefixes that it has,
-//! and takes no memory. If there is no memory for a prefix in one of the first two sets, that set is given up for a
-//! search through the map, until nothing is found there any more; so a prefix can be taken back without memory.
+//! announced, and the latter once more as one set for each section (in a map of `section_map`). So a message visits
+//! only the prefixes that it has, and takes no memory. If there is no memory for a prefix in one of the first two sets,
+//! that set is given up for a search through the map, until nothing is found there any more; so a prefix can be taken
+//! back without memory.
 //!
 //! Which routes are advertised is not decided here, and what was written is the caller's to send. A session that comes
 //! up begins with a new table.

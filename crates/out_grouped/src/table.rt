@@ -19,6 +19,7 @@ use crate::entries::{
 use crate::groups::Groups;
 use crate::packing::{announce, withdraw};
 use crate::waiting::Waiting;
+use section_map::SectionMap;
 use std::alloc::{AllocError, Global};
 use std::collections::BTreeMap;
 use std::marker::Model;
@@ -59,7 +60,7 @@ impl GroupedOut {
             entries: BTreeMap::new(alloc),
             gone: Waiting::none(alloc),
             fresh: Waiting::none(alloc),
-            groups: BTreeMap::new(alloc),
+            groups: SectionMap::new(alloc),
         })
     }
 

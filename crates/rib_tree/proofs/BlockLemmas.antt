@@ -138,4 +138,6 @@ IsPart-in_high first (suc b) from size k part key apart upper =
       ]
     ])
 
-pub ruleset parts = (part_some, IsPart-self, IsPart-low, IsPart-high, IsPart-in_low, IsPart-in_high, IsIn-low, IsIn-high)
+pub ruleset halves = (part_some, IsPart-low, IsPart-high, IsPart-in_low, IsPart-in_high, IsIn-low, IsIn-high)
+
+pub ruleset parts = (IsPart-self, halves)

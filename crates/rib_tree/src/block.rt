@@ -70,6 +70,7 @@ impl Block {
             bits: self.bits - 1,
         }
     }
+
     /// Whether the address of a prefix is one of the block.
     pub fn has(self, key: Prefix) -> bool
         ensures { IsTrue result ↔ IsIn self.first self.bits key }

@@ -2,11 +2,11 @@ use Rattle.std.proofs.Common.{sym}
 use Rattle.std.specs.BTreeMap.{is_at}
 use Rattle.std.specs.Set.{remove_key}
 use Rattle.xb_values.specs.Prefixes.{prefix_cmp}
-use Rattle.out_grouped.proofs.GroupLemmas.{group_at-lent}
+use Rattle.out_grouped.proofs.GroupLemmas.{group_at-lent, when_lent}
 use Rattle.out_grouped.proofs.groups.remove_from.Goals as goal
 
 pub returns-in-Some-clause-left : goal.returns-in-Some-clause-left
 returns-in-Some-clause-left c =
     group_at-lent (remove_key (is_at (prefix_cmp c.args.prefix))) c.args.groups.now
     (c.get_mut.follows.lender c.remove.new.self) c.args.section.now c.in-Some.group.now c.remove.new.self
-    (sym c.in-Some.ensures.value) c.remove.ensures.keys (c.get_mut.follows.holds c.remove.new.self).3
+    (sym c.in-Some.ensures.value) c.remove.ensures.keys (when_lent c.get_mut.result c.in-Some.group _ (c.get_mut.follows.holds c.remove.new.self) c.in-Some.is)

@@ -5,6 +5,7 @@ use Rattle.bgp_write.specs.Pending.{section_of}
 use Rattle.out_grouped.specs.Slots.{adv_in, keys_where, waits_with, Keeps}
 use Rattle.out_grouped.specs.Groups.{members}
 use Rattle.out_grouped.specs.Sending.{announcement_from}
+use Rattle.out_grouped.proofs.GroupLemmas.{when_lent}
 use Rattle.out_grouped.proofs.SendingLemmas.{IsGrouped-announced, announcement_from-all, gone-kept}
 use Rattle.out_grouped.proofs.packing.pack_announcement.Goals as goal
 
@@ -39,7 +40,8 @@ returns-in-Some c =
       groups = IsGrouped-announced c.args.groups.now (c.get_mut.follows.lender c.pack_group.new.group) es new
           c.section_at.result.now c.in-Some.group.now c.pack_group.new.group (sym c.in-Some.ensures.value)
           (p.group ∙ ap (λ (s : List ℕ). keys_where (waits_with s) new) looked)
-          (c.get_mut.follows.holds c.pack_group.new.group).3 c.requires.groups keeps;
+          (when_lent c.get_mut.result c.in-Some.group _ (c.get_mut.follows.holds c.pack_group.new.group) c.in-Some.is)
+          c.requires.groups keeps;
       formed = p.formed ∙ ap (λ (s : List ℕ). announcement_from s [] es) section;
       same_reference = p.same_reference;
       capacity = p.capacity;

@@ -19,7 +19,8 @@ returns-clause-from g c =
 pub returns-clause-rising : goal.returns-clause-rising
 returns-clause-rising g c =
     rw c.in_ok-others.ensures.items (IsRising-left prefix_cmp prefix_total
-    (take c.how_many_below-at.result c.args.entries.now.items) (drop c.how_many_below-at.result c.args.entries.now.items)
+    (take c.how_many_below-at.result c.args.entries.now.items)
+    (drop c.how_many_below-at.result c.args.entries.now.items)
     (rw (take-append-drop c.how_many_below-at.result c.args.entries.now.items) c.requires))
 
 pub returns-clause-rising_others : goal.returns-clause-rising_others

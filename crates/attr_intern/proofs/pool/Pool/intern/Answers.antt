@@ -3,8 +3,7 @@ use Rattle.std.specs.Option.{IfSome}
 use Rattle.std.proofs.lemmas.Result.{err_from_is_err_and}
 use Rattle.bgp_attr.specs.Routes.{canon, route_of}
 use Rattle.xbgp_view.specs.Sections.{IsCanonical}
-use Rattle.attr_intern.specs.Ids.{id_of}
-use Rattle.attr_intern.specs.Kept.{AreIndexed}
+use Rattle.section_map.specs.Sections.{at_section}
 use Rattle.attr_intern.proofs.EntriesLemmas.{entries_from_get}
 use Rattle.attr_intern.proofs.KeptLemmas.{AreIndexed-added, AreIndexed-same, AreIndexed-shared, ArePooled-entries}
 use Rattle.attr_intern.proofs.KeptLemmas.{IsMeant-found}
@@ -59,7 +58,7 @@ returns-in-Some-clause-shared g c = λ other lives.
     let has : HasRecords c.self.inside.shared c.args.self.now c.in-Some.key c.new.result =
     record { all = c.self.view_is; under = sym c.new.ensures } in
     let one : Some c.in-Some.key ≡ Some other =
-    c.in-Some.ensures ∙ ap (id_of c.self.inside.ids) (sym section)
+    c.in-Some.ensures ∙ ap (at_section c.self.inside.ids) (sym section)
     ∙ listed_elsewhere has c.self.inside.ids other r c.self.invariant.0 lives in
     c.new.ensures ∙ cc one
 
@@ -69,9 +68,8 @@ returns-in-Some-clause-pooled g c =
 
 pub invariant_of-self-in_err-key : goal.invariant_of-self-in_err-key
 invariant_of-self-in_err-key g c = (
-  subst (AreIndexed c.add_record.new.shared) (sym c.in_err-key.ensures.err_ids)
-      (AreIndexed-same c.self.inside.shared c.add_record.new.shared c.self.inside.ids c.in_err-key.ensures.err_records
-      c.self.invariant.0),
+  AreIndexed-same c.self.inside.shared c.add_record.new.shared c.self.inside.ids c.add_record.new.ids
+      c.in_err-key.ensures.err_records c.in_err-key.ensures.err_ids c.self.invariant.0,
   ap (λ b. b.capacity) c.write_section.ensures.written ∙ c.self.invariant.1,
 )
 
@@ -119,7 +117,7 @@ returns-clause-shared g c = λ other lives.
     let has : HasRecords c.self.inside.shared c.args.self.now c.in_ok-key.key c.new-2.result =
     record { all = c.self.view_is; under = sym c.new-2.ensures } in
     let one : None ≡ Some other =
-    c.in_default.ensures ∙ ap (id_of c.self.inside.ids) (sym section)
+    c.in_default.ensures ∙ ap (at_section c.self.inside.ids) (sym section)
     ∙ listed_elsewhere has c.self.inside.ids other r c.self.invariant.0 lives in
     absurd (cc one)
 

@@ -1,6 +1,6 @@
 // A number for each section that tells most sections apart.
 ghost use Rattle.std.specs.Prelude.{◌≡◌, ◌+◌, ◌≤◌, length};
-ghost use Rattle.attr_intern.specs.Sums.{eight_at, mixed, sum_of};
+ghost use Rattle.section_map.specs.Sums.{eight_at, mixed, sum_of};
 
 // The octets of a word.
 const WORD: usize = 8;

@@ -2,7 +2,7 @@
 -- octets after them.
 use Rattle.std.specs.Prelude.{ℕ, zero, suc, ◌+◌, ◌*◌, ◌/◌, ◌%◌, ◌^◌, List, [], ◌∷◌, length, slice_index, bit_xor}
 use Rattle.std.specs.Int.{w64, from_be_bytes, rotate_left}
-use Rattle.attr_intern.specs.declared.sum.TheConstants.{FACTOR, TURN, WORD}
+use Rattle.section_map.specs.declared.sum.TheConstants.{FACTOR, TURN, WORD}
 
 -- the number of eight octets from offset i; octets past the end count as 0
 abbrev pub eight_at : List ℕ → ℕ → ℕ

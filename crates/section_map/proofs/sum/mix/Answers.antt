@@ -1,8 +1,8 @@
 use Rattle.std.proofs.Common.{ap, ◌*◌, ◌%◌, ◌^◌}
 use Rattle.std.specs.Prelude.{bit_xor}
-use Rattle.attr_intern.specs.Sums.{mixed}
-use Rattle.attr_intern.specs.declared.sum.TheConstants.{FACTOR}
-use Rattle.attr_intern.proofs.sum.mix.Goals as goal
+use Rattle.section_map.specs.Sums.{mixed}
+use Rattle.section_map.specs.declared.sum.TheConstants.{FACTOR}
+use Rattle.section_map.proofs.sum.mix.Goals as goal
 
 pub returns : goal.returns
 unfolding mixed

@@ -1,7 +1,7 @@
 use Rattle.std.proofs.Common.{◌≡◌, suc, ◌+◌, ◌*◌, ◌/◌, ◌%◌, length, refl, ap, ◌∙◌, arith}
-use Rattle.attr_intern.specs.Sums.{mixed, octets_sum, sum_of, words_sum}
-use Rattle.attr_intern.specs.declared.sum.TheConstants.{WORD}
-use Rattle.attr_intern.proofs.sum.sum_of.Goals as goal
+use Rattle.section_map.specs.Sums.{mixed, octets_sum, sum_of, words_sum}
+use Rattle.section_map.specs.declared.sum.TheConstants.{WORD}
+use Rattle.section_map.proofs.sum.sum_of.Goals as goal
 
 pub words-init : goal.words-init
 words-init c = refl

@@ -1,7 +1,7 @@
 use Rattle.std.proofs.Common.{◌≡◌, ◌*◌}
-use Rattle.attr_intern.specs.Sums.{octets_sum, words_sum}
-use Rattle.attr_intern.specs.declared.sum.TheConstants.{WORD}
-use Rattle.attr_intern.proofs.sum.sum_of.Given as goal
+use Rattle.section_map.specs.Sums.{octets_sum, words_sum}
+use Rattle.section_map.specs.declared.sum.TheConstants.{WORD}
+use Rattle.section_map.proofs.sum.sum_of.Given as goal
 
 -- the sum is that of the words so far
 abbrev pub invariant-words : goal.invariant-words
