@@ -65,6 +65,11 @@ no_length : {A : Type 0} (xs : List A) → length xs ≡ 0 → xs ≡ []
 no_length [] is = refl
 no_length (x ∷ xs) is = absurd (cc is)
 
+-- the group of a section whose prefixes are gone
+pub group_at-emptied : (new : Grouping) (s : List ℕ) (changed : BTreeSet Prefix) → at_section new s ≡ Some changed
+    → length changed.keys ≡ 0 → group_at new s ≡ []
+group_at-emptied new s changed there empty = ap members there ∙ no_length changed.keys empty
+
 -- a group without prefixes may go
 pub AreSame-removed : (old new : Grouping) (s : List ℕ) → ChangesAt old new s None → group_at old s ≡ []
     → AreSame old new
