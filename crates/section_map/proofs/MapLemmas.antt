@@ -1,8 +1,8 @@
 -- What is found for a section, and what a change of the first sections or of the rest makes of it.
-use Rattle.std.proofs.Common.{◌≡◌, ◌≢◌, ◌⊎◌, ℕ, List, [], Bool, Option, Some, None, is_some, IsSome, true, false}
+use Rattle.std.proofs.Common.{◌≡◌, ◌≢◌, ◌⊎◌, ℕ, List, [], Option, Some, None, is_some, IsSome, true, false}
 use Rattle.std.proofs.Common.{cond, inl, inr, Vec, refl, sym, ap, ◌∙◌, rules}
 use Rattle.std.specs.Borrow.{MutBor}
-use Rattle.std.specs.Option.{OnSome, option_copied_mut, option_map}
+use Rattle.std.specs.Option.{OnSome, option_copied_mut}
 use Rattle.std.specs.Prelude.{not}
 use Rattle.std.specs.BTreeMap.{BTreeMap, IsUnchanged, Updates, UpdatesBy, get, get_by, is_at}
 use Rattle.std.specs.Cmp.{eq_by_cmp_equiv}

@@ -11,7 +11,6 @@ ghost use Rattle.section_map.specs.Sections.{ChangesAt, SameSections, at_section
 use crate::sum::sum_of;
 use std::alloc::{AllocError, Global};
 use std::collections::BTreeMap;
-use std::collections::btree_map::Entry;
 
 // The first section of a sum, and its value.
 #[derive(Drop)]
@@ -96,13 +95,10 @@ impl<V: Drop> SectionMap<V> {
     {
         let sum = sum_of(section);
         let section = Vec::from_slice(self.alloc, section)?;
-        match self.firsts.entry(sum)? {
-            Entry::Vacant(slot) => {
-                let _ = slot.insert(First { section, value });
-            }
-            Entry::Occupied(_) => {
-                let _ = self.rest.insert(section, value)?;
-            }
+        if self.firsts.contains_key(&sum) {
+            let _ = self.rest.insert(section, value)?;
+        } else {
+            let _ = self.firsts.insert(sum, First { section, value })?;
         }
         Ok(())
     }
