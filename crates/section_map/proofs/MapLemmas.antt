@@ -57,10 +57,6 @@ pub none_found : {A : Type 0} (x : Option A) → is_some x ≡ false → x ≡ N
 none_found None h = refl
 none_found (Some a) h = absurd (cc h)
 
-pub is_some_from : {A : Type 0} (o : Option A) (x : A) → o ≡ Some x → IsSome o
-is_some_from None x is = absurd (cc is)
-is_some_from (Some y) x is = search rules
-
 -- what is true of a value that is lent
 pub on_some : {A P : Type 0} (x : Option (MutBor A)) → (is_some (option_copied_mut x) ≡ true → P) → OnSome x P
 on_some None p = tt
