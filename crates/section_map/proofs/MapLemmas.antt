@@ -181,7 +181,7 @@ module _ {V : Type 0} where
     }
 
     -- a change of the rest
-    pub ChangesAt-rest : (s : List ℕ) (v : V) → new.firsts ≡ old.firsts
+    pub ChangesAt-rest : (s : List ℕ) (v : V) → IsUnchanged old.firsts new.firsts
         → UpdatesBy section_cmp (compared s) old.rest new.rest (Some v) → ChangesAt old new s (Some v)
     unfolding at_section
     ChangesAt-rest s v firsts updates = record {
@@ -189,7 +189,7 @@ module _ {V : Type 0} where
       others = λ q apart.
           value_or-both _ _ _ _
           (get_by-updated old.rest new.rest s q (Some v) updates apart)
-          (ap (λ firsts. value_if (get nat_cmp firsts (sum_of q)) q) firsts);
+          (ap (λ es. value_if (lookup (is_at (nat_cmp (sum_of q))) es) q) firsts);
     }
 
     -- a section that is not the first of its sum is gone from the rest

@@ -1,6 +1,6 @@
 // A map from sections to values.
-ghost use Rattle.std.specs.Prelude.{◌≡◌, ◌≢◌, ℕ, List, Some, None, OnOk, OnErr};
-ghost use Rattle.std.specs.BTreeMap.{get};
+ghost use Rattle.std.specs.Prelude.{◌≡◌, ◌≢◌, ℕ, List, Some, None, IfOk, IfSome, OnOk, OnErr};
+ghost use Rattle.std.specs.BTreeMap.{IsUnchanged, Updates, get};
 ghost use Rattle.std.specs.Borrow.{sem};
 ghost use Rattle.std.specs.Option.{option_map, option_copied_mut};
 ghost use Rattle.std.specs.Ordering.{nat_cmp};
@@ -11,6 +11,7 @@ ghost use Rattle.section_map.specs.Sections.{ChangesAt, SameSections, at_section
 use crate::sum::sum_of;
 use std::alloc::{AllocError, Global};
 use std::collections::BTreeMap;
+use std::collections::btree_map::Entry;
 
 // The first section of a sum, and its value.
 #[derive(Drop)]
@@ -29,6 +30,26 @@ impl<V> First<V> {
             return Some(&mut self.value);
         }
         None
+    }
+}
+
+// Puts a first section of a sum in its place, or gives it back if the sum has one.
+fn put_first<V: Drop>(
+    firsts: &mut BTreeMap<u64, First<V>>,
+    sum: u64,
+    first: First<V>,
+) -> Result<Option<First<V>>, AllocError>
+    ensures put { IfOk result (λ left. left ≡ None → (get nat_cmp firsts.old sum ≡ None)
+        × Updates nat_cmp firsts.old firsts.new sum (Some first)) }
+    ensures left { IfOk result (λ left. IfSome left (λ it. (it ≡ first) × IsUnchanged firsts.old firsts.new)) }
+    ensures err { OnErr result (IsUnchanged firsts.old firsts.new) }
+{
+    match firsts.entry(sum)? {
+        Entry::Vacant(slot) => {
+            let _ = slot.insert(first);
+            Ok(None)
+        }
+        Entry::Occupied(_) => Ok(Some(first)),
     }
 }
 
@@ -95,10 +116,8 @@ impl<V: Drop> SectionMap<V> {
     {
         let sum = sum_of(section);
         let section = Vec::from_slice(self.alloc, section)?;
-        if self.firsts.contains_key(&sum) {
-            let _ = self.rest.insert(section, value)?;
-        } else {
-            let _ = self.firsts.insert(sum, First { section, value })?;
+        if let Some(other) = put_first(&mut self.firsts, sum, First { section, value })? {
+            let _ = self.rest.insert(other.section, other.value)?;
         }
         Ok(())
     }
