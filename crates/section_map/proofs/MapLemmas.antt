@@ -1,6 +1,6 @@
 -- What is found for a section, and what a change of the first sections or of the rest makes of it.
-use Rattle.std.proofs.Common.{◌≡◌, ◌≢◌, ◌⊎◌, ℕ, List, [], Option, Some, None, is_some, IsSome, true, false}
-use Rattle.std.proofs.Common.{cond, inl, inr, Vec, refl, sym, ap, ◌∙◌, rules}
+use Rattle.std.proofs.Common.{◌≡◌, ◌≢◌, ◌⊎◌, ℕ, List, [], Option, Some, None, is_some, true, false}
+use Rattle.std.proofs.Common.{cond, inl, inr, Vec, refl, sym, ap, ◌∙◌}
 use Rattle.std.specs.Borrow.{MutBor}
 use Rattle.std.specs.Option.{OnSome, option_copied_mut}
 use Rattle.std.specs.Prelude.{not}
