@@ -169,4 +169,8 @@ impl RouteView for Record {
         let field = field_from(&self.fields, from)?;
         Some(field.code)
     }
+
+    fn canonical_section(&self) -> Option<&[u8]> {
+        Some(self.section())
+    }
 }

@@ -79,4 +79,8 @@ impl RouteView for AttrList {
             .find(|node| u16::from(node.code()) >= from)?;
         Some(node.code())
     }
+
+    fn canonical_section(&self) -> Option<&[u8]> {
+        None
+    }
 }

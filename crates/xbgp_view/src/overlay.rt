@@ -103,6 +103,10 @@ impl RouteView for Overlay {
     fn code_from(&self, from: u16) -> Option<u8> {
         code_in(self.section.as_slice(), from)
     }
+
+    fn canonical_section(&self) -> Option<&[u8]> {
+        Some(self.section.as_slice())
+    }
 }
 
 // Replaces the content of `out` by the canonical section of the route of a section whose codes rise, and returns true,

@@ -119,4 +119,8 @@ impl RouteView for SectionView<'_> {
     fn code_from(&self, from: u16) -> Option<u8> {
         least_code(&self.index, from)
     }
+
+    fn canonical_section(&self) -> Option<&[u8]> {
+        None
+    }
 }

@@ -1,5 +1,5 @@
 // What a view of a route shows, and its canonical section written from that alone.
-ghost use Rattle.std.specs.Prelude.{◌≡◌, ◌+◌, ◌≤◌, ◌++◌, length};
+ghost use Rattle.std.specs.Prelude.{◌≡◌, ◌+◌, ◌≤◌, ◌++◌, length, IfSome};
 ghost use Rattle.bgp_attr.specs.Routes.{Route, IsRoute, attribute_at, canon, route_of};
 ghost use Rattle.xbgp_view.specs.Sections.{entry_octets, IsCanonical};
 ghost use Rattle.xbgp_view.specs.Views.{flags_and_length, code_from, copied, length_that_fits};
@@ -36,6 +36,11 @@ pub trait RouteView {
     fn code_from(&self, from: u16) -> Option<u8>
         ensures shape { IsRoute (route self.now) }
         ensures value { result ≡ code_from (route self.now) from };
+
+    /// The canonical section of the route, or None if the view doesn't keep it as one slice.
+    fn canonical_section(&self) -> Option<&[u8]>
+        ensures shape { IfSome result (λ s. IsRoute (route self.now)) }
+        ensures value { IfSome result (λ s. s.now ≡ canon (route self.now)) };
 }
 
 // Appends the attribute of a code, if the view has it.
@@ -51,8 +56,8 @@ fn append_entry<R: RouteView>(view: &R, code: u8, out: &mut Buf)
     }
 }
 
-/// Replaces the content of `out` by the canonical section of the route that a view shows.
-pub fn write_section<R: RouteView>(view: &R, out: &mut Buf)
+// Replaces the content of `out` by the canonical section of the route that a view shows, attribute by attribute.
+fn spell<R: RouteView>(view: &R, out: &mut Buf)
     requires { MAX_CANONICAL ≤ out.old.capacity }
     ensures written { out.new ≡ record out.old { octets = canon (R.route view.now) } }
     ensures canonical { IsCanonical out.new.octets }
@@ -63,5 +68,18 @@ pub fn write_section<R: RouteView>(view: &R, out: &mut Buf)
     'codes: while let Some(code) = view.code_from(from) {
         append_entry(view, code, out);
         from = u16::from(code) + 1;
+    }
+}
+
+/// Replaces the content of `out` by the canonical section of the route that a view shows.
+pub fn write_section<R: RouteView>(view: &R, out: &mut Buf)
+    requires { MAX_CANONICAL ≤ out.old.capacity }
+    ensures written { out.new ≡ record out.old { octets = canon (R.route view.now) } }
+    ensures canonical { IsCanonical out.new.octets }
+    ensures route { route_of out.new.octets ≡ R.route view.now }
+{
+    match view.canonical_section() {
+        Some(section) => out.replace(section),
+        None => spell(view, out),
     }
 }

@@ -1,7 +1,7 @@
 use Rattle.std.proofs.Common.{◌≡◌, ◌≤◌, ◌-◌}
 use Rattle.bgp_attr.specs.Routes.{canon}
 use Rattle.xbgp_view.specs.Sections.{below_code}
-use Rattle.xbgp_view.proofs.view.write_section.Given as goal
+use Rattle.xbgp_view.proofs.view.spell.Given as goal
 
 abbrev pub invariant-codes : goal.invariant-codes
 invariant-codes g l =
