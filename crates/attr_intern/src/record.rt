@@ -171,6 +171,6 @@ impl RouteView for Record {
     }
 
     fn canonical_section(&self) -> Option<&[u8]> {
-        Some(self.section())
+        Some(self.section.as_slice())
     }
 }
