@@ -10,17 +10,17 @@ use Rattle.xb_words.proofs.TableLemmas.{IsRising-without, without-absent}
 use Rattle.xb_values.specs.Prefixes.{Prefix, prefix_cmp}
 use Rattle.xb_values.proofs.PrefixLemmas.{prefix_total}
 use Rattle.xb_wire.specs.declared.numbers.TheConstants.{MAX_SECTION}
-use Rattle.bgp_write.specs.Pending.{same_section}
 use Rattle.out_grouped.specs.Told.{Told}
 use Rattle.out_grouped.specs.Waits.{Has, with_wait}
 use Rattle.out_grouped.specs.Slots.{Slot, Slots, IsSlot, IsSound, adv_in, told_of, advertised, keys_where, taken_back}
-use Rattle.out_grouped.specs.Slots.{was_told, is_gone, is_fresh, without_adv}
+use Rattle.out_grouped.specs.Slots.{was_told, is_gone, is_fresh, without_adv, passes, due_of}
+use Rattle.out_grouped.specs.declared.waiting.Due.{Due}
+use Rattle.out_grouped.specs.declared.waiting.Turn.{Turn}
 use Rattle.out_grouped.specs.Groups.{Grouping, IsGrouped, IsKept}
 use Rattle.out_grouped.specs.declared.waiting.Waiting.{Waiting}
-use Rattle.out_grouped.proofs.GroupLemmas.{same_bytes}
 use Rattle.out_grouped.proofs.SlotLemmas.{value_at-part, part-with_value-some, part-with_value-none}
 use Rattle.out_grouped.proofs.SlotLemmas.{part-with_value-same, part-without, part-without-same, with_value-same}
-use Rattle.out_grouped.proofs.SlotLemmas.{keys_where-written, keys_where-removed, IsRising-part}
+use Rattle.out_grouped.proofs.SlotLemmas.{keys_where-written, keys_where-removed}
 use Rattle.out_grouped.proofs.SlotLemmas.{keys_where-without-same}
 
 adv-advertised : (o : Option Slot) (x : List ℕ) → (advertised o x).adv ≡ Some x
@@ -67,40 +67,55 @@ advertised-gone : (o : Option Slot) (x : List ℕ) → is_gone (advertised o x) 
 advertised-gone None x = refl
 advertised-gone (Some s) x = refl
 
+-- a prefix of which it is known whether its slot passes
+with_wait-same : (test : Slot → Bool) (es : Slots) (p : Prefix) (o : Option Slot) → IsRising prefix_cmp es
+    → value_at prefix_cmp es p ≡ o → with_wait (keys_where test es) p (passes test o) ≡ keys_where test es
+with_wait-same test es p None rising there = keys_where-absent test es p rising there
+with_wait-same test es p (Some s) rising there =
+    sym (keys_where-written test es p s (test s) rising refl)
+    ∙ ap (keys_where test) (with_value-same es p s rising there)
+
+-- what is kept of the prefixes that wait follows a change of one
+abbrev Follows : Waiting → Waiting → Prefix → Bool → Bool → Type 0
+Follows w w_after p before after =
+    (ps : List Prefix) → with_wait ps p before ≡ ps → Has w ps → Has w_after (with_wait ps p after)
+
+Has-turned : (test : Slot → Bool) (es new : Slots) (p : Prefix) (w w_after : Waiting) (before after : Bool)
+    → IsRising prefix_cmp es → before ≡ passes test (value_at prefix_cmp es p)
+    → keys_where test new ≡ with_wait (keys_where test es) p after
+    → Follows w w_after p before after → Has w (keys_where test es) → Has w_after (keys_where test new)
+Has-turned test es new p w w_after before after rising was is follows has =
+    subst (Has w_after) (sym is)
+    (follows (keys_where test es)
+    (ap (with_wait (keys_where test es) p) was ∙ with_wait-same test es p (value_at prefix_cmp es p) rising refl) has)
+
 pub kept-advertised : (gone fresh gone_after fresh_after : Waiting) (groups after : Grouping) (es new : Slots)
-    (p : Prefix) (x : List ℕ) (waits : Bool) → length x ≤ MAX_SECTION → IsKept gone fresh groups es
+    (p : Prefix) (x : List ℕ) (turn : Turn) → length x ≤ MAX_SECTION → IsKept gone fresh groups es
     → new ≡ with_value prefix_cmp es p (advertised (value_at prefix_cmp es p) x)
-    → waits ≡ is_fresh (advertised (value_at prefix_cmp es p) x)
-    → ((ps : List Prefix) → Has gone ps → Has gone_after (with_wait ps p false))
-    → ((ps : List Prefix) → Has fresh ps → Has fresh_after (with_wait ps p waits))
+    → turn.before ≡ due_of (value_at prefix_cmp es p)
+    → turn.after ≡ due_of (Some (advertised (value_at prefix_cmp es p) x))
+    → Follows gone gone_after p turn.before.gone turn.after.gone
+    → Follows fresh fresh_after p turn.before.fresh turn.after.fresh
     → IsGrouped after new → IsKept gone_after fresh_after after new
-kept-advertised gone fresh gone_after fresh_after groups after es new p x waits short kept is waits_is on_gone on_fresh
-    grouped =
+kept-advertised gone fresh gone_after fresh_after groups after es new p x turn short kept is before_is after_is on_gone
+    on_fresh grouped =
     let s = advertised (value_at prefix_cmp es p) x in
     let rising = kept.sound.rising in
     record {
       sound = subst IsSound (sym is)
           (written_is_sound es p s kept.sound (λ q. advertised_is_slot (value_at prefix_cmp es p) x q short));
-      gone = subst (Has gone_after) (sym (ap (keys_where is_gone) is
-          ∙ keys_where-written is_gone es p s false rising (advertised-gone (value_at prefix_cmp es p) x)))
-          (on_gone (keys_where is_gone es) kept.gone);
-      fresh = subst (Has fresh_after) (sym (ap (keys_where is_fresh) is
-          ∙ keys_where-written is_fresh es p s waits rising (sym waits_is)))
-          (on_fresh (keys_where is_fresh es) kept.fresh);
+      gone = Has-turned is_gone es new p gone gone_after turn.before.gone turn.after.gone rising
+          (ap (λ (d : Due). d.gone) before_is)
+          (ap (keys_where is_gone) is
+          ∙ keys_where-written is_gone es p s turn.after.gone rising (sym (ap (λ (d : Due). d.gone) after_is)))
+          on_gone kept.gone;
+      fresh = Has-turned is_fresh es new p fresh fresh_after turn.before.fresh turn.after.fresh rising
+          (ap (λ (d : Due). d.fresh) before_is)
+          (ap (keys_where is_fresh) is
+          ∙ keys_where-written is_fresh es p s turn.after.fresh rising (sym (ap (λ (d : Due). d.fresh) after_is)))
+          on_fresh kept.fresh;
       groups = grouped;
     }
-
--- nothing changes if it was advertised already
-same_some : (x : List ℕ) (o : Option (List ℕ)) → same_section (Some x) o ≡ true → o ≡ Some x
-same_some x None same = absurd (cc same)
-same_some x (Some y) same = ap Some (sym (same_bytes x y same))
-
-pub told_of-advertised-same : (es : Slots) (p : Prefix) (x : List ℕ) → IsRising prefix_cmp es
-    → same_section (Some x) (option_and_then (λ (s : Slot). s.adv) (value_at prefix_cmp es p)) ≡ true
-    → told_of es ≡ record (told_of es) { adv = with_value prefix_cmp (adv_in es) p x }
-told_of-advertised-same es p x rising same =
-    let there = value_at-part (λ s. s.adv) es p rising ∙ same_some x _ same in
-    told_by _ _ (sym (with_value-same (adv_in es) p x (IsRising-part (λ s. s.adv) es rising) there)) refl
 
 -- a prefix is advertised no longer
 told_of-slot : (es : Slots) (p : Prefix) (a t : Option (List ℕ)) → IsRising prefix_cmp es
@@ -159,21 +174,28 @@ fresh-taken_back es p (Some s) rising there = go s.told
     go (Some t) = keys_where-written is_fresh es p (record { adv = None; told = Some t }) false rising refl
 
 pub kept-taken_back : (gone fresh gone_after fresh_after : Waiting) (groups after : Grouping) (es new : Slots)
-    (p : Prefix) (waits : Bool) → IsKept gone fresh groups es
-    → new ≡ taken_back es p (value_at prefix_cmp es p) → waits ≡ was_told (value_at prefix_cmp es p)
-    → ((ps : List Prefix) → Has gone ps → Has gone_after (with_wait ps p waits))
-    → ((ps : List Prefix) → Has fresh ps → Has fresh_after (with_wait ps p false))
+    (p : Prefix) (turn : Turn) → IsKept gone fresh groups es
+    → new ≡ taken_back es p (value_at prefix_cmp es p)
+    → turn.before ≡ due_of (value_at prefix_cmp es p)
+    → turn.after ≡ record { fresh = false; gone = was_told (value_at prefix_cmp es p) }
+    → Follows gone gone_after p turn.before.gone turn.after.gone
+    → Follows fresh fresh_after p turn.before.fresh turn.after.fresh
     → IsGrouped after new → IsKept gone_after fresh_after after new
-kept-taken_back gone fresh gone_after fresh_after groups after es new p waits kept is waits_is on_gone on_fresh
+kept-taken_back gone fresh gone_after fresh_after groups after es new p turn kept is before_is after_is on_gone on_fresh
     grouped =
     let o = value_at prefix_cmp es p in
     let rising = kept.sound.rising in
     record {
       sound = subst IsSound (sym is) (sound-taken_back es p o kept.sound);
-      gone = subst (Has gone_after) (sym (ap (keys_where is_gone) is ∙ gone-taken_back es p o rising refl
-          ∙ ap (with_wait (keys_where is_gone es) p) (sym waits_is)))
-          (on_gone (keys_where is_gone es) kept.gone);
-      fresh = subst (Has fresh_after) (sym (ap (keys_where is_fresh) is ∙ fresh-taken_back es p o rising refl))
-          (on_fresh (keys_where is_fresh es) kept.fresh);
+      gone = Has-turned is_gone es new p gone gone_after turn.before.gone turn.after.gone rising
+          (ap (λ (d : Due). d.gone) before_is)
+          (ap (keys_where is_gone) is ∙ gone-taken_back es p o rising refl
+          ∙ ap (λ (d : Due). with_wait (keys_where is_gone es) p d.gone) (sym after_is))
+          on_gone kept.gone;
+      fresh = Has-turned is_fresh es new p fresh fresh_after turn.before.fresh turn.after.fresh rising
+          (ap (λ (d : Due). d.fresh) before_is)
+          (ap (keys_where is_fresh) is ∙ fresh-taken_back es p o rising refl
+          ∙ ap (λ (d : Due). with_wait (keys_where is_fresh es) p d.fresh) (sym after_is))
+          on_fresh kept.fresh;
       groups = grouped;
     }

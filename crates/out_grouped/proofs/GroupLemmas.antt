@@ -21,10 +21,14 @@ use Rattle.out_grouped.specs.Slots.{Slot, Slots, advertised, is_fresh, keys_wher
 use Rattle.out_grouped.specs.Slots.{waits_with}
 use Rattle.out_grouped.specs.Groups.{Grouping, group_at, members, AreSame, IsGrouped, Joins, Leaves}
 use Rattle.out_grouped.proofs.SlotLemmas.{keys_where-written, keys_where-removed}
-use Rattle.out_grouped.proofs.SlotLemmas.{keys_where-with_value-same, keys_where-without-same}
+use Rattle.out_grouped.proofs.SlotLemmas.{keys_where-with_value-same, keys_where-without-same, with_value-same}
 
 pub same_bytes : (s t : List ℕ) → bytes_eq s t ≡ true → s ≡ t
 same_bytes s t same = (bytes_eq-Decides s t).0 same
+
+pub same_some : (x : List ℕ) (o : Option (List ℕ)) → same_section (Some x) o ≡ true → o ≡ Some x
+same_some x None same = absurd (cc same)
+same_some x (Some y) same = ap Some (sym (same_bytes x y same))
 
 -- the groups after a change of one
 pub group_at-updated : (f : List Prefix → List Prefix) (old new : Grouping) (s : List ℕ)
@@ -186,6 +190,12 @@ IsGrouped-undone old mid new es p now rising grouped joins leaves apart t =
           rw here (remove_key-insert_key p ks absent)
       | inr away ↦ rw away refl
     ]
+
+-- the slot that is there changes nothing
+pub IsGrouped-there : (groups : Grouping) (es : Slots) (p : Prefix) (s : Slot) → IsRising prefix_cmp es
+    → value_at prefix_cmp es p ≡ Some s → IsGrouped groups es → IsGrouped groups (with_value prefix_cmp es p s)
+IsGrouped-there groups es p s rising there grouped =
+    subst (λ (l : Slots). IsGrouped groups l) (sym (with_value-same es p s rising there)) grouped
 
 -- groups that are the same as others
 pub IsGrouped-same : (old new : Grouping) (es : Slots) → AreSame old new → IsGrouped old es → IsGrouped new es

@@ -9,6 +9,7 @@ use Rattle.xb_values.specs.Prefixes.{Prefix, Sections, prefix_cmp}
 use Rattle.xb_wire.specs.declared.numbers.TheConstants.{MAX_SECTION}
 use Rattle.bgp_write.specs.Pending.{same_section}
 use Rattle.out_grouped.specs.Told.{Told}
+use Rattle.out_grouped.specs.declared.waiting.Due.{Due}
 use Rattle.out_grouped.specs.declared.entry.State.{State}
 use Rattle.out_grouped.specs.declared.entry.State.TheVariants.{Known, Fresh, Changed, Gone}
 
@@ -103,6 +104,15 @@ advertised (Some old) s = record old { adv = Some s }
 abbrev pub waited : Option Slot → Option (List ℕ)
 waited None = None
 waited (Some s) = waiting s
+
+-- whether a prefix has a slot that passes a test
+abbrev pub passes : (Slot → Bool) → Option Slot → Bool
+passes test None = false
+passes test (Some s) = test s
+
+-- which message is due for a prefix, by its slot
+abbrev pub due_of : Option Slot → Due
+due_of o = record { fresh = passes is_fresh o; gone = passes is_gone o }
 
 -- whether anything was told of a prefix
 abbrev pub was_told : Option Slot → Bool

@@ -1,9 +1,10 @@
 // The sections of one prefix.
-ghost use Rattle.std.specs.Prelude.{◌≡◌, IsTrue, is_some, Some, None, false, IfOk, OnOk, OnErr};
+ghost use Rattle.std.specs.Prelude.{◌≡◌, IsTrue, is_some, Some, None, false, IfOk};
 ghost use Rattle.std.specs.Option.{option_map};
 ghost use Rattle.bgp_write.specs.Pending.{same_section};
-ghost use Rattle.out_grouped.specs.Slots.{is_fresh, is_gone, waiting};
+ghost use Rattle.out_grouped.specs.Slots.{due_of, is_fresh, is_gone, waiting};
 
+use crate::waiting::Due;
 use std::alloc::{AllocError, Global};
 use std::marker::Model;
 use std::mem;
@@ -35,8 +36,8 @@ impl Model for Entry {
     ghost invariant = { λ e. IsApart e.section.items e.state };
 }
 
-// A copy of a section. The error is want of memory.
-fn copy_of(alloc: Global, section: &[u8]) -> Result<Vec<u8>, AllocError>
+/// A copy of a section. The error is want of memory.
+pub(crate) fn copy_of(alloc: Global, section: &[u8]) -> Result<Vec<u8>, AllocError>
     ensures { IfOk result (λ v. v.items ≡ section.now) }
 {
     section.to_vec(alloc)
@@ -59,16 +60,6 @@ impl Entry {
         match self.state {
             State::Gone => None,
             _ => Some(self.section.as_slice()),
-        }
-    }
-
-    fn told(&self) -> Option<&[u8]>
-        ensures { option_map (λ s. s.now) result ≡ self.now.told }
-    {
-        match &self.state {
-            State::Known | State::Gone => Some(self.section.as_slice()),
-            State::Fresh => None,
-            State::Changed(told) => Some(told.as_slice()),
         }
     }
 
@@ -97,12 +88,25 @@ impl Entry {
         !matches!(self.state, State::Fresh)
     }
 
+    /// Which message is due.
+    pub(crate) fn due(&self) -> Due
+        ensures { result ≡ due_of (Some self.now) }
+    {
+        Due {
+            fresh: self.is_fresh(),
+            gone: self.is_gone(),
+        }
+    }
+
+    /// Whether a section was told that is not advertised.
     pub(crate) fn is_told_as(&self, section: &[u8]) -> bool
+        requires { same_section (Some section.now) self.now.adv ≡ false }
         ensures { result ≡ same_section (Some section.now) self.now.told }
     {
-        match self.told() {
-            Some(told) => section == told,
-            None => false,
+        match &self.state {
+            State::Known | State::Fresh => false,
+            State::Changed(told) => section == told.as_slice(),
+            State::Gone => section == self.section.as_slice(),
         }
     }
 
@@ -115,8 +119,8 @@ impl Entry {
         }
     }
 
-    // Advertises what was told. The section with which the prefix waited is returned.
-    fn restore(&mut self) -> Option<Vec<u8>>
+    /// Advertises what was told. The section with which the prefix waited is returned.
+    pub(crate) fn restore(&mut self) -> Option<Vec<u8>>
         requires { IsTrue (is_some self.old.told) }
         ensures after { self.new ≡ record self.old { adv = self.old.told } }
         ensures waited { option_map (λ s. s.items) result ≡ waiting self.old }
@@ -127,8 +131,8 @@ impl Entry {
         Some(mem::replace(&mut self.section, told))
     }
 
-    // Advertises a section that was not told. The section with which the prefix waited is returned.
-    fn change(&mut self, section: Vec<u8>) -> Option<Vec<u8>>
+    /// Advertises a section that was not told. The section with which the prefix waited is returned.
+    pub(crate) fn change(&mut self, section: Vec<u8>) -> Option<Vec<u8>>
         requires { same_section (Some section.items) self.old.told ≡ false }
         ensures after { self.new ≡ record self.old { adv = Some section.items } }
         ensures waited { option_map (λ s. s.items) result ≡ waiting self.old }
@@ -139,24 +143,6 @@ impl Entry {
         }
         self.state = State::Changed(old);
         None
-    }
-
-    /// Advertises a section, which is copied only if it was not told. The section with which the prefix waited is
-    /// returned. The error is want of memory; then nothing changed.
-    pub(crate) fn set(
-        &mut self,
-        alloc: Global,
-        section: &[u8],
-    ) -> Result<Option<Vec<u8>>, AllocError>
-        ensures ok { OnOk result (self.new ≡ record self.old { adv = Some section.now }) }
-        ensures waited { IfOk result (λ w. option_map (λ s. s.items) w ≡ waiting self.old) }
-        ensures err { OnErr result (self.new ≡ self.old) }
-    {
-        if self.is_told_as(section) {
-            return Ok(self.restore());
-        }
-        let section = copy_of(alloc, section)?;
-        Ok(self.change(section))
     }
 
     /// Advertises nothing. The section with which the prefix waited is returned.

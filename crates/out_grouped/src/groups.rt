@@ -40,8 +40,8 @@ fn begin(
     groups.insert(section, group)
 }
 
-// A prefix joins the group of a section. The error is want of memory; then nothing changed.
-fn join_one(
+/// A prefix joins the group of a section. The error is want of memory; then nothing changed.
+pub(crate) fn join(
     groups: &mut Groups,
     alloc: Global,
     section: &[u8],
@@ -55,22 +55,6 @@ fn join_one(
     };
     let _ = group.insert(prefix)?;
     Ok(())
-}
-
-/// A prefix joins the group of a section, if one is given. The error is want of memory; then nothing changed.
-pub(crate) fn join(
-    groups: &mut Groups,
-    alloc: Global,
-    section: Option<&[u8]>,
-    prefix: Prefix,
-) -> Result<(), AllocError>
-    ensures ok { OnOk result (Joins groups.old groups.new (option_map (λ s. s.now) section.entry) prefix) }
-    ensures err { OnErr result (AreSame groups.old groups.new) }
-{
-    match section {
-        Some(section) => join_one(groups, alloc, section, prefix),
-        None => Ok(()),
-    }
 }
 
 /// The group of a section goes if it is empty.
@@ -104,8 +88,8 @@ fn remove_from(groups: &mut Groups, section: &[u8], prefix: Prefix) -> bool
     false
 }
 
-// A prefix leaves the group of a section.
-fn leave_one(groups: &mut Groups, section: &[u8], prefix: Prefix)
+/// A prefix leaves the group of a section.
+pub(crate) fn leave_one(groups: &mut Groups, section: &[u8], prefix: Prefix)
     ensures { Leaves groups.old groups.new (Some section.now) prefix }
 {
     if remove_from(groups, section, prefix) {
@@ -119,14 +103,5 @@ pub(crate) fn leave(groups: &mut Groups, waited: Option<Vec<u8>>, prefix: Prefix
 {
     if let Some(section) = waited {
         leave_one(groups, &section, prefix);
-    }
-}
-
-/// A prefix leaves the group that it joined, if it did.
-pub(crate) fn undo_join(groups: &mut Groups, joined: Option<&[u8]>, prefix: Prefix)
-    ensures { Leaves groups.old groups.new (option_map (λ s. s.now) joined.entry) prefix }
-{
-    if let Some(section) = joined {
-        leave_one(groups, section, prefix);
     }
 }

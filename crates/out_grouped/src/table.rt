@@ -13,12 +13,11 @@ ghost use Rattle.out_grouped.specs.Told.{told_after, written_after};
 
 use crate::changes::{advertise, withdraw_later};
 use crate::entries::{
-    Entries, first_after, first_fresh, first_gone, first_of, is_advertised_as, next_fresh,
-    next_gone,
+    Entries, first_after, first_fresh, first_gone, first_of, next_fresh, next_gone,
 };
 use crate::groups::Groups;
 use crate::packing::{announce, withdraw};
-use crate::waiting::Waiting;
+use crate::waiting::{Waiting, follow};
 use section_map::SectionMap;
 use std::alloc::{AllocError, Global};
 use std::collections::BTreeMap;
@@ -72,18 +71,14 @@ impl GroupedOut {
             ≡ record self.old { adv = with_value prefix_cmp self.old.adv prefix section.now }) }
         ensures err { OnErr result (self.new ≡ self.old) }
     {
-        if is_advertised_as(&self.entries, prefix, section) {
-            return Ok(());
-        }
-        let waits = advertise(
+        let turn = advertise(
             &mut self.entries,
             &mut self.groups,
             self.alloc,
             prefix,
             section,
         )?;
-        self.fresh.set(prefix, waits);
-        self.gone.set(prefix, false);
+        follow(&mut self.gone, &mut self.fresh, prefix, turn);
         Ok(())
     }
 
@@ -91,9 +86,8 @@ impl GroupedOut {
     pub fn unset(&mut self, prefix: Prefix)
         ensures { self.new ≡ record self.old { adv = without prefix_cmp self.old.adv prefix } }
     {
-        let waits = withdraw_later(&mut self.entries, &mut self.groups, prefix);
-        self.gone.set(prefix, waits);
-        self.fresh.set(prefix, false);
+        let turn = withdraw_later(&mut self.entries, &mut self.groups, prefix);
+        follow(&mut self.gone, &mut self.fresh, prefix, turn);
     }
 
     /// Replaces the content of `out` by the next UPDATE, which the peer is then told. False, with `out` unchanged, if

@@ -13,6 +13,20 @@ use std::alloc::Global;
 use std::collections::BTreeSet;
 use xb_values::Prefix;
 
+/// Which message is due for a prefix: its announcement, or its withdrawal.
+#[derive(Clone, Copy)]
+pub(crate) struct Due {
+    pub(crate) fresh: bool,
+    pub(crate) gone: bool,
+}
+
+/// What is due for a prefix before a change and after it.
+#[derive(Clone, Copy)]
+pub(crate) struct Turn {
+    pub(crate) before: Due,
+    pub(crate) after: Due,
+}
+
 /// The prefixes that wait for a message. If there was no memory for one of them, only where a search for them begins.
 #[derive(Drop)]
 pub(crate) struct Waiting {
@@ -99,6 +113,16 @@ impl Waiting {
         }
     }
 
+    // The same for a prefix of which it is known whether it waits.
+    fn turn(&mut self, prefix: Prefix, before: bool, after: bool)
+        ensures { (ps : List Prefix) → with_wait ps prefix before ≡ ps → Has self.old ps
+            → Has self.new (with_wait ps prefix after) }
+    {
+        if before != after {
+            self.set(prefix, after);
+        }
+    }
+
     /// The first waits no longer.
     pub(crate) fn remove_first(&mut self)
         ensures { (p : Prefix) (ps : List Prefix) → Has self.old (p ∷ ps) → Has self.new ps }
@@ -115,4 +139,16 @@ impl Waiting {
             self.from = first;
         }
     }
+}
+
+/// A prefix waits as it does after a change. Those that wait to be withdrawn are given, and those that wait to be
+/// announced.
+pub(crate) fn follow(gone: &mut Waiting, fresh: &mut Waiting, prefix: Prefix, turn: Turn)
+    ensures gone { (ps : List Prefix) → with_wait ps prefix turn.before.gone ≡ ps → Has gone.old ps
+        → Has gone.new (with_wait ps prefix turn.after.gone) }
+    ensures fresh { (ps : List Prefix) → with_wait ps prefix turn.before.fresh ≡ ps → Has fresh.old ps
+        → Has fresh.new (with_wait ps prefix turn.after.fresh) }
+{
+    gone.turn(prefix, turn.before.gone, turn.after.gone);
+    fresh.turn(prefix, turn.before.fresh, turn.after.fresh);
 }

@@ -8,14 +8,14 @@ use Rattle.out_grouped.proofs.table.GroupedOut.unset.Goals as goal
 
 pub invariant_of-self : goal.invariant_of-self
 invariant_of-self c =
-    let w = c.withdraw_later-waits in
-    kept-taken_back c.self.inside.gone c.self.inside.fresh c.set.new.self c.set-2.new.self c.self.inside.groups
+    let w = c.withdraw_later-turn in
+    kept-taken_back c.self.inside.gone c.self.inside.fresh c.follow.new.gone c.follow.new.fresh c.self.inside.groups
     w.new.groups c.self.inside.entries.entries w.new.entries.entries c.args.prefix w.result c.self.invariant
-    w.ensures.after w.ensures.waits c.set.ensures c.set-2.ensures w.ensures.groups
+    w.ensures.after w.ensures.before w.ensures.due c.follow.ensures.gone c.follow.ensures.fresh w.ensures.groups
 
 pub returns : goal.returns
 returns c =
     let es = c.self.inside.entries.entries in
-    ap told_of c.withdraw_later-waits.ensures.after
+    ap told_of c.withdraw_later-turn.ensures.after
     ∙ told_of-taken_back es c.args.prefix (value_at prefix_cmp es c.args.prefix) c.self.invariant.sound.rising refl
     ∙ ap (λ (t : Told). record t { adv = without prefix_cmp t.adv c.args.prefix }) c.self.view_is

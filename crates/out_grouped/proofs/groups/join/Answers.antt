@@ -2,7 +2,7 @@ use Rattle.std.proofs.Common.{Result, Ok, Err, OnErr, sym}
 use Rattle.std.specs.BTreeSet.{insert_key}
 use Rattle.xb_values.specs.Prefixes.{prefix_cmp}
 use Rattle.out_grouped.proofs.GroupLemmas.{group_at-lent, when_lent, AreSame-lent}
-use Rattle.out_grouped.proofs.groups.join_one.Goals as goal
+use Rattle.out_grouped.proofs.groups.join.Goals as goal
 
 on_err : {T E : Type 0} (P : Type 0) (r : Result T E) → P → OnErr r P
 on_err P (Ok v) p = tt
