@@ -1,5 +1,5 @@
 // The prefixes that wait for a message.
-ghost use Rattle.std.specs.Prelude.{◌≡◌, true, false, List, [], ◌∷◌, None};
+ghost use Rattle.std.specs.Prelude.{◌≡◌, true, false, not, List, [], ◌∷◌, None};
 ghost use Rattle.std.specs.BTreeMap.{is_at};
 ghost use Rattle.std.specs.BTreeMap.Range.{IsLeBy};
 ghost use Rattle.std.specs.BTreeSet.{insert_key};
@@ -132,15 +132,14 @@ impl Waiting {
         let _ = self.known.remove(&prefix);
     }
 
-    // A prefix waits from now on, or waits no longer, or nothing changes of that.
-    fn change(&mut self, prefix: Prefix, before: bool, after: bool)
-        ensures { (ps : List Prefix) → Has self.old ps → Has self.new (with_change ps prefix before after) }
+    // A prefix waits from now on, or waits no longer.
+    fn set(&mut self, prefix: Prefix, waits: bool)
+        ensures { (ps : List Prefix) → Has self.old ps → Has self.new (with_change ps prefix (not waits) waits) }
     {
-        if before && !after {
-            self.remove(prefix);
-        }
-        if after && !before {
+        if waits {
             self.add(prefix);
+        } else {
+            self.remove(prefix);
         }
     }
 
@@ -162,13 +161,17 @@ impl Waiting {
     }
 }
 
-/// A prefix waits as a change says.
+/// A prefix waits as a change says. What stays as it was costs nothing.
 pub(crate) fn note(gone: &mut Waiting, fresh: &mut Waiting, prefix: Prefix, change: Change)
     ensures gone { (ps : List Prefix) → Has gone.old ps
         → Has gone.new (with_change ps prefix change.before.gone change.after.gone) }
     ensures fresh { (ps : List Prefix) → Has fresh.old ps
         → Has fresh.new (with_change ps prefix change.before.fresh change.after.fresh) }
 {
-    gone.change(prefix, change.before.gone, change.after.gone);
-    fresh.change(prefix, change.before.fresh, change.after.fresh);
+    if change.before.gone != change.after.gone {
+        gone.set(prefix, change.after.gone);
+    }
+    if change.before.fresh != change.after.fresh {
+        fresh.set(prefix, change.after.fresh);
+    }
 }
