@@ -18,14 +18,14 @@ use Rattle.bgp_write.specs.Packings.{Packed, packed_message, with_prefix, withdr
 use Rattle.bgp_write.specs.Pending.{Formed, fitting, has_section, same_section, section_of}
 use Rattle.bgp_write.proofs.MessageLemmas.{length-packed_message}
 use Rattle.out_sorted.specs.Slots.{Slot, Slots, IsSlot, IsSound, Keeps, adv_in, told_in, retold, keys_where, is_gone}
-use Rattle.out_sorted.specs.Slots.{is_fresh}
+use Rattle.out_sorted.specs.Slots.{is_fresh, passes}
 use Rattle.out_sorted.specs.Waits.{Has}
 use Rattle.out_sorted.specs.declared.waiting.Waiting.{Waiting}
 use Rattle.out_sorted.specs.Sending.{announcement_from, announcement_of, formed_by, withdrawal_from, withdrawal_of}
 use Rattle.out_sorted.specs.Sending.{to_announce, to_withdraw}
-use Rattle.out_sorted.proofs.SlotLemmas.{value_at-part, part-with_value-some, part-with_value-same}
-use Rattle.out_sorted.proofs.SlotLemmas.{part-without, part-without-same, first-where, keys_where-with_value}
-use Rattle.out_sorted.proofs.SlotLemmas.{keys_where-without, keys_where-without-same, keys_where-with_value-same}
+use Rattle.out_sorted.proofs.SlotLemmas.{value_at-part, part-with_value-some, part-with_slot-same}
+use Rattle.out_sorted.proofs.SlotLemmas.{part-without, first-where, keys_where-with_value}
+use Rattle.out_sorted.proofs.SlotLemmas.{keys_where-without, keys_where-with_slot}
 use Rattle.out_sorted.proofs.SlotLemmas.{section_of-some}
 use Rattle.out_sorted.proofs.ChangeLemmas.{written_is_sound}
 use Rattle.out_sorted.proofs.PendingLemmas.{no_first, some_first}
@@ -51,15 +51,14 @@ pub keeps-without : (old es new : Slots) (p : Prefix) → Keeps is_fresh old es
 keeps-without old es new p keeps is done =
     let f = first-where is_gone es p keeps.sound.rising is in
     let none = ap (option_and_then (λ (s : Slot). s.adv)) f.1 ∙ gone_is f.0 f.2 in
-    let not_fresh : IfSome (value_at prefix_cmp es p) (λ s. is_fresh s ≡ false) =
-    subst (λ (o : Option Slot). IfSome o (λ s. is_fresh s ≡ false)) (sym f.1) (gone-not_fresh f.0 f.2) in
+    let not_fresh = ap (passes is_fresh) f.1 ∙ gone-not_fresh f.0 f.2 in
     let all : Keeps is_fresh old (without prefix_cmp es p) = record {
       sound = record {
         rising = IsRising-without prefix_cmp prefix_total es p keeps.sound.rising;
         slots = AllByRecursion-without prefix_cmp IsSlot es p keeps.sound.slots;
       };
-      adv = part-without-same (λ s. s.adv) es p keeps.sound.rising none ∙ keeps.adv;
-      others = keys_where-without-same is_fresh es p keeps.sound.rising not_fresh ∙ keeps.others;
+      adv = part-with_slot-same (λ s. s.adv) es p None keeps.sound.rising none ∙ keeps.adv;
+      others = keys_where-with_slot is_fresh es p None false false keeps.sound.rising not_fresh refl ∙ keeps.others;
     } in
     subst (λ (l : Slots). Keeps is_fresh old l) (sym done) all
 
@@ -267,13 +266,12 @@ keeps-retold old es new p keeps is done =
     let held = value_at-some prefix_cmp IsSlot es p s keeps.sound.slots f.2 in
     let some = some_slot s.adv f.1 f.3 in
     let gone : is_gone s ≡ false = ap is_none f.3 in
-    let here : IfSome (value_at prefix_cmp es p) (λ r. is_gone r ≡ false) =
-    subst (λ (o : Option Slot). IfSome o (λ r. is_gone r ≡ false)) (sym f.2) gone in
+    let here = ap (passes is_gone) f.2 ∙ gone in
     let all : Keeps is_gone old (with_value prefix_cmp es p slot) = record {
       sound = written_is_sound es p slot keeps.sound (λ q. retold_is_slot (held.0, s) q held.2 some);
-      adv = part-with_value-same (λ s. s.adv) es p slot keeps.sound.rising
+      adv = part-with_slot-same (λ s. s.adv) es p (Some slot) keeps.sound.rising
           (ap (option_and_then (λ (s : Slot). s.adv)) f.2) ∙ keeps.adv;
-      others = keys_where-with_value-same is_gone es p slot keeps.sound.rising here gone ∙ keeps.others;
+      others = keys_where-with_slot is_gone es p (Some slot) false false keeps.sound.rising here gone ∙ keeps.others;
     } in
     subst (λ (l : Slots). Keeps is_gone old l) (sym (done ∙ retold-some es p s f.2)) all
 
@@ -327,7 +325,7 @@ adv-retold : (es : Slots) (p : Prefix) → IsRising prefix_cmp es → first_of (
 adv-retold es p rising is =
     let f = first-fresh es p rising is in
     ap adv_in (retold-some es p f.0 f.2)
-    ∙ part-with_value-same (λ s. s.adv) es p (record f.0 { told = f.0.adv }) rising
+    ∙ part-with_slot-same (λ s. s.adv) es p (Some (record f.0 { told = f.0.adv })) rising
     (ap (option_and_then (λ (s : Slot). s.adv)) f.2)
 
 abbrev announcement_with : List ℕ → List Prefix → List ℕ → Sections → Formed

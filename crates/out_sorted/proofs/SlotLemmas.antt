@@ -9,7 +9,7 @@ use Rattle.std.specs.List.{AllByRecursion}
 use Rattle.std.specs.List.Sorted.{IsStrictlySortedBy}
 use Rattle.std.specs.Map.{set_value, keys_of}
 use Rattle.std.specs.Map.Iter.{deref_pair}
-use Rattle.std.specs.Option.{option_map, option_and_then, IfSome}
+use Rattle.std.specs.Option.{option_map, option_and_then}
 use Rattle.std.specs.Ordering.{is_lt, is_le, is_eq, is_gt}
 use Rattle.std.specs.Result.{OnErr}
 use Rattle.std.specs.Set.{remove_key}
@@ -28,8 +28,8 @@ use Rattle.xb_values.specs.Prefixes.{Prefix, Sections, prefix_cmp}
 use Rattle.xb_values.proofs.PrefixLemmas.{prefix_total, prefix_exact}
 use Rattle.bgp_write.specs.Pending.{section_of}
 use Rattle.bgp_write.proofs.SetLemmas.{by_ordering}
-use Rattle.out_sorted.specs.Waits.{with_wait}
-use Rattle.out_sorted.specs.Slots.{Slot, Slots, adv_in, part, with_front, without_adv, keys_where}
+use Rattle.out_sorted.specs.Waits.{with_change}
+use Rattle.out_sorted.specs.Slots.{Slot, Slots, adv_in, part, passes, told_alone, with_front, with_slot, keys_where}
 
 -- every key is after a prefix
 abbrev pub Above : {X : Type 0} → Prefix → List (Prefix × X) → Type 0
@@ -115,7 +115,7 @@ value_at-part f (e ∷ es) p rising =
     (λ g. rw g (passed e.0 p (f e.1) (part f es) (ap is_eq g) ∙ rest))
 
 -- sections with one written, or removed
-abbrev written : Sections → Prefix → Option (List ℕ) → Sections
+abbrev pub written : Sections → Prefix → Option (List ℕ) → Sections
 written t p None = without prefix_cmp t p
 written t p (Some s) = with_value prefix_cmp t p s
 
@@ -176,26 +176,24 @@ pub part-with_value-some : (f : Slot → Option (List ℕ)) (es : Slots) (p : Pr
     → part f (with_value prefix_cmp es p s) ≡ with_value prefix_cmp (part f es) p x
 part-with_value-some f es p s x rising is = part-with_value f es p s rising ∙ ap (written (part f es) p) is
 
-pub part-with_value-none : (f : Slot → Option (List ℕ)) (es : Slots) (p : Prefix) (s : Slot) → IsRising prefix_cmp es
-    → f s ≡ None → part f (with_value prefix_cmp es p s) ≡ without prefix_cmp (part f es) p
-part-with_value-none f es p s rising is = part-with_value f es p s rising ∙ ap (written (part f es) p) is
-
 written-same : (t : Sections) (p : Prefix) (o : Option (List ℕ)) → IsRising prefix_cmp t → value_at prefix_cmp t p ≡ o
     → written t p o ≡ t
 written-same t p None rising there = without-absent prefix_cmp t p there
 written-same t p (Some s) rising there = with_value-same t p s rising there
 
--- and none if the part has the section already
-pub part-with_value-same : (f : Slot → Option (List ℕ)) (es : Slots) (p : Prefix) (s : Slot) → IsRising prefix_cmp es
-    → option_and_then f (value_at prefix_cmp es p) ≡ f s → part f (with_value prefix_cmp es p s) ≡ part f es
-part-with_value-same f es p s rising is =
-    part-with_value f es p s rising
-    ∙ written-same (part f es) p (f s) (IsRising-part f es rising) (value_at-part f es p rising ∙ is)
+-- another slot is another section of a part
+pub part-with_slot : (f : Slot → Option (List ℕ)) (es : Slots) (p : Prefix) (o : Option Slot) → IsRising prefix_cmp es
+    → part f (with_slot es p o) ≡ written (part f es) p (option_and_then f o)
+part-with_slot f es p None rising = part-without f es p rising
+part-with_slot f es p (Some s) rising = part-with_value f es p s rising
 
-pub part-without-same : (f : Slot → Option (List ℕ)) (es : Slots) (p : Prefix) → IsRising prefix_cmp es
-    → option_and_then f (value_at prefix_cmp es p) ≡ None → part f (without prefix_cmp es p) ≡ part f es
-part-without-same f es p rising is =
-    part-without f es p rising ∙ without-absent prefix_cmp (part f es) p (value_at-part f es p rising ∙ is)
+-- or none, if the part has that section already
+pub part-with_slot-same : (f : Slot → Option (List ℕ)) (es : Slots) (p : Prefix) (o : Option Slot)
+    → IsRising prefix_cmp es → option_and_then f (value_at prefix_cmp es p) ≡ option_and_then f o
+    → part f (with_slot es p o) ≡ part f es
+part-with_slot-same f es p o rising is =
+    part-with_slot f es p o rising
+    ∙ written-same (part f es) p (option_and_then f o) (IsRising-part f es rising) (value_at-part f es p rising ∙ is)
 
 -- a write over a value that is there, as a map lends it
 pub set_value-with_value : {X : Type 0} (es : List (Prefix × X)) (p : Prefix) (old new : X) → IsRising prefix_cmp es
@@ -220,16 +218,15 @@ on_err (Ok x) holds = tt
 on_err (Err x) holds = holds
 
 -- a slot that was told stays when it is advertised no longer
-pub without_adv-told : (es : Slots) (p : Prefix) (told : Option (List ℕ)) → is_some told ≡ true
-    → with_value prefix_cmp es p (record { adv = None; told = told }) ≡ without_adv es p told
-without_adv-told es p None some = absurd (cc some)
-without_adv-told es p (Some t) some = refl
+pub told_alone-told : (told : Option (List ℕ)) → is_some told ≡ true
+    → Some (record { adv = None; told = told }) ≡ told_alone told
+told_alone-told None some = absurd (cc some)
+told_alone-told (Some t) some = refl
 
 -- and any other goes
-pub without_adv-fresh : (es : Slots) (p : Prefix) (told : Option (List ℕ)) → is_some told ≡ false
-    → without prefix_cmp es p ≡ without_adv es p told
-without_adv-fresh es p None none = refl
-without_adv-fresh es p (Some t) none = absurd (cc none)
+pub told_alone-none : (told : Option (List ℕ)) → is_some told ≡ false → None ≡ told_alone told
+told_alone-none None none = refl
+told_alone-none (Some t) none = absurd (cc none)
 
 -- the section with which a prefix is advertised
 pub section_of-some : (es : Slots) (p : Prefix) (s : Slot) (x : List ℕ) → IsRising prefix_cmp es
@@ -329,53 +326,30 @@ IsStrictlySortedBy-keys_where test es rising =
     subst (λ (l : List Prefix). IsStrictlySortedBy prefix_cmp l) (keys_of-part test es)
     (IsRising-part (marked test) es rising)
 
--- after a write there is one more or one less, as the slot passes
-pub keys_where-written : (test : Slot → Bool) (es : Slots) (p : Prefix) (s : Slot) (passes : Bool)
-    → IsRising prefix_cmp es → test s ≡ passes
-    → keys_where test (with_value prefix_cmp es p s) ≡ with_wait (keys_where test es) p passes
-keys_where-written test es p s true rising is =
-    sym (keys_of-part test (with_value prefix_cmp es p s))
-    ∙ ap keys_of (part-with_value-some (marked test) es p s [] rising (rw is refl))
-    ∙ keys_of-with_value (part (marked test) es) p []
-    ∙ ap (λ (l : List Prefix). insert_key prefix_cmp l p) (keys_of-part test es)
-keys_where-written test es p s false rising is =
-    sym (keys_of-part test (with_value prefix_cmp es p s))
-    ∙ ap keys_of (part-with_value-none (marked test) es p s rising (rw is refl))
-    ∙ keys_of-without (part (marked test) es) p
-    ∙ ap (remove_key (is_at (prefix_cmp p))) (keys_of-part test es)
+-- when a prefix has another slot, there is one more, one less, or the same, as the slots before and after pass
+keys_of-written : (t : Sections) (p : Prefix) (before after : Bool) → IsRising prefix_cmp t
+    → value_at prefix_cmp t p ≡ cond before (Some []) None
+    → keys_of (written t p (cond after (Some []) None)) ≡ with_change (keys_of t) p before after
+keys_of-written t p true true rising there = ap keys_of (written-same t p (Some []) rising there)
+keys_of-written t p true false rising there = keys_of-without t p
+keys_of-written t p false true rising there = keys_of-with_value t p []
+keys_of-written t p false false rising there = ap keys_of (written-same t p None rising there)
 
--- and after a removal one less
-pub keys_where-removed : (test : Slot → Bool) (es : Slots) (p : Prefix) → IsRising prefix_cmp es
-    → keys_where test (without prefix_cmp es p) ≡ with_wait (keys_where test es) p false
-keys_where-removed test es p rising =
-    sym (keys_of-part test (without prefix_cmp es p))
-    ∙ ap keys_of (part-without (marked test) es p rising)
-    ∙ keys_of-without (part (marked test) es) p
-    ∙ ap (remove_key (is_at (prefix_cmp p))) (keys_of-part test es)
+marked-passes : (test : Slot → Bool) (o : Option Slot) (pass : Bool) → passes test o ≡ pass
+    → option_and_then (marked test) o ≡ cond pass (Some []) None
+marked-passes test None pass is = ap (λ b. cond b (Some []) None) is
+marked-passes test (Some s) pass is = ap (λ b. cond b (Some []) None) is
 
--- or the same, if the prefix had no slot that passes
-not_marked : (test : Slot → Bool) (o : Option Slot) → IfSome o (λ s. test s ≡ false)
-    → option_and_then (marked test) o ≡ None
-not_marked test None fails = refl
-not_marked test (Some s) fails = rw fails refl
-
-pub keys_where-with_value-same : (test : Slot → Bool) (es : Slots) (p : Prefix) (s : Slot) → IsRising prefix_cmp es
-    → IfSome (value_at prefix_cmp es p) (λ r. test r ≡ false) → test s ≡ false
-    → keys_where test (with_value prefix_cmp es p s) ≡ keys_where test es
-keys_where-with_value-same test es p s rising old new =
-    let none : marked test s ≡ None = rw new refl in
-    sym (keys_of-part test (with_value prefix_cmp es p s))
-    ∙ ap keys_of (part-with_value-same (marked test) es p s rising
-    (not_marked test (value_at prefix_cmp es p) old ∙ sym none))
-    ∙ keys_of-part test es
-
-pub keys_where-without-same : (test : Slot → Bool) (es : Slots) (p : Prefix) → IsRising prefix_cmp es
-    → IfSome (value_at prefix_cmp es p) (λ r. test r ≡ false)
-    → keys_where test (without prefix_cmp es p) ≡ keys_where test es
-keys_where-without-same test es p rising old =
-    sym (keys_of-part test (without prefix_cmp es p))
-    ∙ ap keys_of (part-without-same (marked test) es p rising (not_marked test (value_at prefix_cmp es p) old))
-    ∙ keys_of-part test es
+pub keys_where-with_slot : (test : Slot → Bool) (es : Slots) (p : Prefix) (o : Option Slot) (before after : Bool)
+    → IsRising prefix_cmp es → passes test (value_at prefix_cmp es p) ≡ before → passes test o ≡ after
+    → keys_where test (with_slot es p o) ≡ with_change (keys_where test es) p before after
+keys_where-with_slot test es p o before after rising was is =
+    let marks = part (marked test) es in
+    sym (keys_of-part test (with_slot es p o))
+    ∙ ap keys_of (part-with_slot (marked test) es p o rising ∙ ap (written marks p) (marked-passes test o after is))
+    ∙ keys_of-written marks p before after (IsRising-part (marked test) es rising)
+    (value_at-part (marked test) es p rising ∙ marked-passes test (value_at prefix_cmp es p) before was)
+    ∙ ap (λ (l : List Prefix). with_change l p before after) (keys_of-part test es)
 
 -- a search finds the first, if none is before the prefix at which it begins
 is_le-not_gt : (r : Ordering) → is_gt r ≡ false → is_le r ≡ true

@@ -12,7 +12,9 @@ use Rattle.out_sorted.specs.Told.{Told}
 use Rattle.out_sorted.specs.Waits.{Has}
 use Rattle.out_sorted.specs.declared.entry.State.{State}
 use Rattle.out_sorted.specs.declared.entry.State.TheVariants.{Known, Fresh, Changed, Gone}
+use Rattle.out_sorted.specs.declared.waiting.Change.{Change}
 use Rattle.out_sorted.specs.declared.waiting.Waiting.{Waiting}
+use Rattle.out_sorted.specs.declared.waiting.Waits.{Waits}
 
 -- the sections of one prefix, each of which may be absent
 pub record Slot : Type 0 where
@@ -63,6 +65,19 @@ is_gone s = is_none s.adv
 abbrev pub is_fresh : Slot → Bool
 is_fresh s = is_some s.adv && not (same_section s.adv s.told)
 
+-- whether the slot of a prefix passes a test, if it has one
+abbrev pub passes : (Slot → Bool) → Option Slot → Bool
+passes test None = false
+passes test (Some s) = test s
+
+-- how a prefix waits, by its slot
+abbrev pub waits_of : Option Slot → Waits
+waits_of o = record { gone = passes is_gone o; fresh = passes is_fresh o }
+
+-- how it waits before and after a change of its slot
+abbrev pub change_of : Option Slot → Option Slot → Change
+change_of old new = record { before = waits_of old; after = waits_of new }
+
 -- the prefixes whose slots pass a test, by rising order
 abbrev pub keys_where : (Slot → Bool) → Slots → List Prefix
 keys_where test es = keys_of (filter (λ e. test e.1) es)
@@ -94,20 +109,20 @@ abbrev pub advertised : Option Slot → List ℕ → Slot
 advertised None s = record { adv = Some s; told = None }
 advertised (Some old) s = record old { adv = Some s }
 
--- whether anything was told of a prefix
-abbrev pub was_told : Option Slot → Bool
-was_told None = false
-was_told (Some s) = is_some s.told
+-- the slot of a prefix that is not advertised, by what was told of it
+abbrev pub told_alone : Option (List ℕ) → Option Slot
+told_alone None = None
+told_alone (Some t) = Some (record { adv = None; told = Some t })
 
--- a slot that is advertised no longer: it stays if anything was told of it
-abbrev pub without_adv : Slots → Prefix → Option (List ℕ) → Slots
-without_adv es p None = without prefix_cmp es p
-without_adv es p (Some t) = with_value prefix_cmp es p (record { adv = None; told = Some t })
+-- the slot of a prefix that is advertised no longer, in place of its slot before
+abbrev pub retracted : Option Slot → Option Slot
+retracted None = None
+retracted (Some old) = told_alone old.told
 
--- the slots when a prefix, whose slot is given, is advertised no longer
-abbrev pub taken_back : Slots → Prefix → Option Slot → Slots
-taken_back es p None = es
-taken_back es p (Some s) = without_adv es p s.told
+-- the slots when a prefix has another slot, or none
+abbrev pub with_slot : Slots → Prefix → Option Slot → Slots
+with_slot es p None = without prefix_cmp es p
+with_slot es p (Some s) = with_value prefix_cmp es p s
 
 -- the slots when a prefix, whose slot is given, is told as it is advertised
 abbrev pub retold : Slots → Prefix → Option Slot → Slots

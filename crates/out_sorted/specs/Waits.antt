@@ -17,7 +17,9 @@ HasBy (Some from) known ps = (known ≡ []) × AllByRecursion (IsLeBy prefix_cmp
 abbrev pub Has : Waiting → List Prefix → Type 0
 Has w ps = HasBy w.from w.known.keys ps
 
--- those that wait when one of them waits from now on, or no longer
-abbrev pub with_wait : List Prefix → Prefix → Bool → List Prefix
-with_wait ps p true = insert_key prefix_cmp ps p
-with_wait ps p false = remove_key (is_at (prefix_cmp p)) ps
+-- those that wait, when it is said of one prefix whether it waited and whether it waits from now on
+abbrev pub with_change : List Prefix → Prefix → Bool → Bool → List Prefix
+with_change ps p true true = ps
+with_change ps p true false = remove_key (is_at (prefix_cmp p)) ps
+with_change ps p false true = insert_key prefix_cmp ps p
+with_change ps p false false = ps

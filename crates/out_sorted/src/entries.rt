@@ -6,20 +6,20 @@ ghost use Rattle.std.specs.Map.Iter.{deref_pair};
 ghost use Rattle.std.specs.Option.{option_and_then, option_map};
 ghost use Rattle.std.specs.declared.ops.Bound.TheVariants.{Included, Excluded, Unbounded};
 ghost use Rattle.std.specs.Str.{bytes_eq};
-ghost use Rattle.xb_words.specs.Table.{entry_after, first_of as first_in, value_at, with_value, without, IsRising};
+ghost use Rattle.xb_words.specs.Table.{entry_after, first_of as first_in, value_at, without, IsRising};
 ghost use Rattle.xb_values.specs.Prefixes.{Prefix, prefix_cmp};
 ghost use Rattle.xb_wire.specs.Messages.{IsMessage};
 ghost use Rattle.bgp_write.specs.Packers.{packed_so_far, buffer_of, reference_of};
 ghost use Rattle.bgp_write.specs.Packings.{announcing, withdrawing};
 ghost use Rattle.bgp_write.specs.Pending.{section_of};
 ghost use Rattle.bgp_write.specs.Written.{Replaces};
-ghost use Rattle.out_sorted.specs.Slots.{adv_in, told_in, advertised, is_fresh, is_gone, keys_where, retold};
-ghost use Rattle.out_sorted.specs.Slots.{taken_back, was_told, IsSound, Keeps};
+ghost use Rattle.out_sorted.specs.Slots.{adv_in, told_in, advertised, change_of, is_fresh, is_gone, keys_where, retold};
+ghost use Rattle.out_sorted.specs.Slots.{retracted, with_slot, IsSound, Keeps};
 ghost use Rattle.out_sorted.specs.Waits.{Has};
 ghost use Rattle.out_sorted.specs.Sending.{announcement_from, formed_by, withdrawal_from};
 
 use crate::entry::Entry;
-use crate::waiting::Waiting;
+use crate::waiting::{Change, Waiting, Waits};
 use bgp_write::Packer;
 use std::alloc::{AllocError, Global};
 use std::collections::BTreeMap;
@@ -29,43 +29,59 @@ use xb_wire::numbers::MAX_MESSAGE;
 
 pub(crate) type Entries = BTreeMap<Prefix, Entry>;
 
-/// Advertises a section. Whether the prefix then waits to be announced is returned. The error is want of memory; then
+/// Advertises a section. How the prefix waits before and after that is returned. The error is want of memory; then
 /// nothing changed.
 pub(crate) fn put(
     entries: &mut Entries,
     alloc: Global,
     prefix: Prefix,
     section: &[u8],
-) -> Result<bool, AllocError>
-    ensures ok { OnOk result (entries.new.entries ≡ with_value prefix_cmp entries.old.entries prefix
-        (advertised (value_at prefix_cmp entries.old.entries prefix) section.now)) }
-    ensures waits { IfOk result (λ waits. waits
-        ≡ is_fresh (advertised (value_at prefix_cmp entries.old.entries prefix) section.now)) }
+) -> Result<Change, AllocError>
+    ensures ok { OnOk result (entries.new.entries ≡ with_slot entries.old.entries prefix
+        (Some (advertised (value_at prefix_cmp entries.old.entries prefix) section.now))) }
+    ensures change { let old = value_at prefix_cmp entries.old.entries prefix in
+        IfOk result (λ c. c ≡ change_of old (Some (advertised old section.now))) }
     ensures err { OnErr result (entries.new.entries ≡ entries.old.entries) }
 {
     let Some(entry) = entries.get_mut(&prefix) else {
         let _ = entries.insert(prefix, Entry::fresh(alloc, section)?)?;
-        return Ok(true);
+        return Ok(Change {
+            before: Waits::none(),
+            after: Waits::to_announce(),
+        });
     };
+    let before = entry.waits();
     entry.set(alloc, section)?;
-    Ok(entry.is_fresh())
+    let after = entry.waits();
+    Ok(Change { before, after })
 }
 
-/// Advertises a prefix no longer. Whether it then waits to be withdrawn is returned.
-pub(crate) fn take_back(entries: &mut Entries, prefix: Prefix) -> bool
-    ensures after { entries.new.entries
-        ≡ taken_back entries.old.entries prefix (value_at prefix_cmp entries.old.entries prefix) }
-    ensures waits { result ≡ was_told (value_at prefix_cmp entries.old.entries prefix) }
+/// Advertises a prefix no longer. How it waits before and after that is returned.
+pub(crate) fn take_back(entries: &mut Entries, prefix: Prefix) -> Change
+    ensures after { entries.new.entries ≡ with_slot entries.old.entries prefix
+        (retracted (value_at prefix_cmp entries.old.entries prefix)) }
+    ensures change { let old = value_at prefix_cmp entries.old.entries prefix in
+        result ≡ change_of old (retracted old) }
 {
     let Some(entry) = entries.get_mut(&prefix) else {
-        return false;
+        return Change {
+            before: Waits::none(),
+            after: Waits::none(),
+        };
     };
+    let before = entry.waits();
     if entry.is_told() {
         entry.unset();
-        return true;
+        return Change {
+            before,
+            after: Waits::to_withdraw(),
+        };
     }
     forget(entries, prefix);
-    false
+    Change {
+        before,
+        after: Waits::none(),
+    }
 }
 
 // Forgets a prefix.

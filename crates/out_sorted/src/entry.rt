@@ -2,8 +2,9 @@
 ghost use Rattle.std.specs.Prelude.{◌≡◌, IsTrue, is_some, Some, None, false, IfOk, OnOk, OnErr};
 ghost use Rattle.std.specs.Option.{option_map};
 ghost use Rattle.bgp_write.specs.Pending.{same_section};
-ghost use Rattle.out_sorted.specs.Slots.{is_fresh, is_gone};
+ghost use Rattle.out_sorted.specs.Slots.{is_fresh, is_gone, waits_of};
 
+use crate::waiting::Waits;
 use std::alloc::{AllocError, Global};
 use std::marker::Model;
 use std::mem;
@@ -82,6 +83,16 @@ impl Entry {
         ensures { result ≡ is_fresh self.now }
     {
         matches!(self.state, State::Fresh | State::Changed(_))
+    }
+
+    /// How the prefix waits for a message.
+    pub(crate) fn waits(&self) -> Waits
+        ensures { result ≡ waits_of (Some self.now) }
+    {
+        Waits {
+            gone: self.is_gone(),
+            fresh: self.is_fresh(),
+        }
     }
 
     pub(crate) fn is_advertised(&self) -> bool

@@ -15,7 +15,7 @@ use crate::entries::{
     Entries, announce, first_after, first_fresh, first_gone, first_of, next_fresh, next_gone, put,
     take_back, withdraw,
 };
-use crate::waiting::Waiting;
+use crate::waiting::{Waiting, note};
 use std::alloc::{AllocError, Global};
 use std::collections::BTreeMap;
 use std::marker::Model;
@@ -64,9 +64,8 @@ impl SortedOut {
             ≡ record self.old { adv = with_value prefix_cmp self.old.adv prefix section.now }) }
         ensures err { OnErr result (self.new ≡ self.old) }
     {
-        let waits = put(&mut self.entries, self.alloc, prefix, section)?;
-        self.fresh.set(prefix, waits);
-        self.gone.set(prefix, false);
+        let change = put(&mut self.entries, self.alloc, prefix, section)?;
+        note(&mut self.gone, &mut self.fresh, prefix, change);
         Ok(())
     }
 
@@ -74,9 +73,8 @@ impl SortedOut {
     pub fn unset(&mut self, prefix: Prefix)
         ensures { self.new ≡ record self.old { adv = without prefix_cmp self.old.adv prefix } }
     {
-        let waits = take_back(&mut self.entries, prefix);
-        self.gone.set(prefix, waits);
-        self.fresh.set(prefix, false);
+        let change = take_back(&mut self.entries, prefix);
+        note(&mut self.gone, &mut self.fresh, prefix, change);
     }
 
     /// Replaces the content of `out` by the next UPDATE, which the peer is then told. False, with `out` unchanged, if

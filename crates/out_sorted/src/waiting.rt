@@ -1,5 +1,5 @@
 // The prefixes that wait for a message.
-ghost use Rattle.std.specs.Prelude.{◌≡◌, List, [], ◌∷◌, None};
+ghost use Rattle.std.specs.Prelude.{◌≡◌, true, false, not, List, [], ◌∷◌, None};
 ghost use Rattle.std.specs.BTreeMap.{is_at};
 ghost use Rattle.std.specs.BTreeMap.Range.{IsLeBy};
 ghost use Rattle.std.specs.BTreeSet.{insert_key};
@@ -7,11 +7,55 @@ ghost use Rattle.std.specs.List.Sorted.{IsStrictlySortedBy};
 ghost use Rattle.std.specs.Set.{remove_key};
 ghost use Rattle.xb_words.specs.Table.{first_of};
 ghost use Rattle.xb_values.specs.Prefixes.{Prefix, prefix_cmp};
-ghost use Rattle.out_sorted.specs.Waits.{with_wait, Has};
+ghost use Rattle.out_sorted.specs.Waits.{with_change, Has};
 
 use std::alloc::Global;
 use std::collections::BTreeSet;
 use xb_values::Prefix;
+
+/// Whether a prefix waits to be withdrawn, and whether it waits to be announced.
+#[derive(Clone, Copy)]
+pub(crate) struct Waits {
+    pub(crate) gone: bool,
+    pub(crate) fresh: bool,
+}
+
+impl Waits {
+    /// Not at all.
+    pub(crate) fn none() -> Waits
+        ensures { result ≡ record { gone = false; fresh = false } }
+    {
+        Waits {
+            gone: false,
+            fresh: false,
+        }
+    }
+
+    pub(crate) fn to_withdraw() -> Waits
+        ensures { result ≡ record { gone = true; fresh = false } }
+    {
+        Waits {
+            gone: true,
+            fresh: false,
+        }
+    }
+
+    pub(crate) fn to_announce() -> Waits
+        ensures { result ≡ record { gone = false; fresh = true } }
+    {
+        Waits {
+            gone: false,
+            fresh: true,
+        }
+    }
+}
+
+/// How a prefix waited before a change, and how it waits from then on.
+#[derive(Clone, Copy)]
+pub(crate) struct Change {
+    pub(crate) before: Waits,
+    pub(crate) after: Waits,
+}
 
 /// The prefixes that wait for a message. If there was no memory for one of them, only where a search for them begins.
 #[derive(Drop)]
@@ -88,9 +132,9 @@ impl Waiting {
         let _ = self.known.remove(&prefix);
     }
 
-    /// A prefix waits from now on, or waits no longer.
-    pub(crate) fn set(&mut self, prefix: Prefix, waits: bool)
-        ensures { (ps : List Prefix) → Has self.old ps → Has self.new (with_wait ps prefix waits) }
+    // A prefix waits from now on, or waits no longer.
+    fn set(&mut self, prefix: Prefix, waits: bool)
+        ensures { (ps : List Prefix) → Has self.old ps → Has self.new (with_change ps prefix (not waits) waits) }
     {
         if waits {
             self.add(prefix);
@@ -114,5 +158,20 @@ impl Waiting {
         if self.from.is_some() {
             self.from = first;
         }
+    }
+}
+
+/// A prefix waits as a change says. What stays as it was costs nothing.
+pub(crate) fn note(gone: &mut Waiting, fresh: &mut Waiting, prefix: Prefix, change: Change)
+    ensures gone { (ps : List Prefix) → Has gone.old ps
+        → Has gone.new (with_change ps prefix change.before.gone change.after.gone) }
+    ensures fresh { (ps : List Prefix) → Has fresh.old ps
+        → Has fresh.new (with_change ps prefix change.before.fresh change.after.fresh) }
+{
+    if change.before.gone != change.after.gone {
+        gone.set(prefix, change.after.gone);
+    }
+    if change.before.fresh != change.after.fresh {
+        fresh.set(prefix, change.after.fresh);
     }
 }
