@@ -2,6 +2,7 @@ pub mod ExportLemmas
 pub mod RebuildsLemmas
 pub mod NarrowLemmas
 pub mod ReceiptLemmas
+mod ReplacesLemmas
 pub mod ReceiptRows
 pub mod ValuesLemmas
 pub mod LeftLemmas

@@ -175,7 +175,7 @@ length-bare r rising =
     )
 
 -- an attribute that is set, if the route did not have one of its code, adds its octets
-length-set_if : (r : Route) (code : ℕ) (o : Option Attribute) → IsStrictlySortedBy nat_cmp (keys_of r)
+pub length-set_if : (r : Route) (code : ℕ) (o : Option Attribute) → IsStrictlySortedBy nat_cmp (keys_of r)
     → attribute_at r code ≡ None → length (canon (set_if code o r)) ≡ length (canon r) + size_if o
 length-set_if r code None rising none = omega arith
 length-set_if r code (Some a) rising none =

@@ -1,12 +1,14 @@
 -- A route with other attributes for the four codes that depend on the width of AS numbers (for the private functions of
 -- four.rt, narrow.rt and wide.rt).
-use Rattle.std.specs.Prelude.{ℕ, ◌+◌, Bool, List, length, Option, Some, None, nat_lt, unwrap_or, if◌then◌else◌}
+use Rattle.std.specs.Prelude.{ℕ, ◌+◌, Bool, List, length, Option, Some, None, is_some, nat_lt, unwrap_or}
+use Rattle.std.specs.Prelude.{if◌then◌else◌}
 use Rattle.std.specs.Option.{option_map}
 use Rattle.bgp_attr.specs.declared.codes.TheConstants.{AS_PATH, AGGREGATOR, AS4_PATH, AS4_AGGREGATOR}
 use Rattle.bgp_attr.specs.declared.flags.TheConstants.{OPTIONAL_TRANSITIVE}
 use Rattle.bgp_attr.specs.Routes.{Route, Attribute, attribute_at, with_attribute, without_attribute}
 use Rattle.bgp_path.specs.Widths.{narrow_path}
 use Rattle.spk_native.specs.declared.four.Four.{Four}
+use Rattle.spk_native.specs.declared.four.Had.{Had}
 use Rattle.spk_native.specs.Receipt.{narrow_aggregator, is_wide_path, is_wide_aggregator}
 use Rattle.spk_native.specs.Receipt.{aggregated_since, good, is_good_path, is_good_aggregator, path_with}
 use Rattle.spk_native.specs.Receipt.{aggregator_with}
@@ -23,6 +25,11 @@ size_if o = unwrap_or (option_map size_of o) 0
 abbrev pub set_if : ℕ → Option Attribute → Route → Route
 set_if code None r = r
 set_if code (Some a) r = with_attribute r code a.flags a.value
+
+-- the route with this for a code: an attribute, or nothing
+abbrev pub replaced : ℕ → Option Attribute → Route → Route
+replaced code None r = without_attribute r code
+replaced code (Some a) r = with_attribute r code a.flags a.value
 
 -- the route without the four codes
 abbrev pub bare : Route → Route
@@ -41,6 +48,16 @@ four_of r = record {
   aggregator = attribute_at r AGGREGATOR;
   path4 = attribute_at r AS4_PATH;
   aggregator4 = attribute_at r AS4_AGGREGATOR;
+}
+
+-- which of the attributes are there, and how many octets they have
+abbrev pub had_of : Four → Had
+had_of f = record {
+  octets = four_size f;
+  path = is_some f.path;
+  aggregator = is_some f.aggregator;
+  path4 = is_some f.path4;
+  aggregator4 = is_some f.aggregator4;
 }
 
 -- the route with these attributes for the four codes

@@ -1,7 +1,9 @@
 // The attributes of a route that depend on the width of AS numbers, lent and set.
-ghost use Rattle.std.specs.Prelude.{◌≡◌, ◌+◌, ◌*◌, ◌≤◌, ◌++◌, length, nat_le, nat_lt, if◌then◌else◌, MatchBool};
-ghost use Rattle.bgp_attr.specs.Routes.{attribute_at, canon, IsRoute};
-ghost use Rattle.spk_native.specs.Rebuilds.{size_if, set_if as set_in, bare, four_of, four_size, rebuilt};
+ghost use Rattle.std.specs.Prelude.{◌≡◌, ◌+◌, ◌*◌, ◌≤◌, ◌++◌, length, is_some, nat_le, nat_lt, if◌then◌else◌};
+ghost use Rattle.std.specs.Prelude.{MatchBool};
+ghost use Rattle.bgp_attr.specs.Routes.{attribute_at, canon, without_attribute, IsRoute};
+ghost use Rattle.spk_native.specs.Rebuilds.{size_if, set_if as set_in, replaced, bare, four_of, four_size, had_of};
+ghost use Rattle.spk_native.specs.Rebuilds.{rebuilt};
 
 use bgp_attr::MAX_CANONICAL;
 use bgp_attr::codes::{AGGREGATOR, AS_PATH, AS4_AGGREGATOR, AS4_PATH};
@@ -97,6 +99,29 @@ pub(crate) fn entry_len(route: &Overlay, code: u8) -> usize
     }
 }
 
+/// Which of the four attributes a route has, and how many octets they have in its canonical section.
+#[derive(Clone, Copy)]
+pub(crate) struct Had {
+    octets: usize,
+    path: bool,
+    aggregator: bool,
+    path4: bool,
+    aggregator4: bool,
+}
+
+/// Which of the four attributes are there, and their octets.
+pub(crate) fn had_in(four: &Four<'_>) -> Had
+    ensures value { result ≡ had_of four.now }
+{
+    Had {
+        octets: four_len(four),
+        path: four.path.is_some(),
+        aggregator: four.aggregator.is_some(),
+        path4: four.path4.is_some(),
+        aggregator4: four.aggregator4.is_some(),
+    }
+}
+
 // The length of the canonical section with these attributes for the four codes, which now have `had` octets.
 fn rebuilt_len(route: &Overlay, had: usize, four: &Four<'_>) -> usize
     requires shape { IsRoute route.now.route }
@@ -107,14 +132,43 @@ fn rebuilt_len(route: &Overlay, had: usize, four: &Four<'_>) -> usize
     route.section_len() - had + four_len(four)
 }
 
-// Removes the attributes of the four codes.
-fn make_bare(route: &mut Overlay)
-    ensures { route.new ≡ record route.old { route = bare route.old.route } }
+// Removes the attribute of a code, if the route has it.
+fn remove_if(route: &mut Overlay, code: u8, had: bool)
+    requires { had ≡ is_some (attribute_at route.old.route code) }
+    ensures { route.new ≡ record route.old { route = without_attribute route.old.route code } }
 {
-    let _ = route.unset(AS_PATH);
-    let _ = route.unset(AGGREGATOR);
-    let _ = route.unset(AS4_PATH);
-    let _ = route.unset(AS4_AGGREGATOR);
+    if had {
+        let _ = route.unset(code);
+    }
+}
+
+// Makes the attribute of a code what is held, if there is room.
+fn replace(route: &mut Overlay, code: u8, had: bool, held: &Option<Held<'_>>)
+    requires had { had ≡ is_some (attribute_at route.old.route code) }
+    requires room { length (canon (replaced code held.now route.old.route)) ≤ MAX_CANONICAL }
+    ensures { route.new ≡ record route.old { route = replaced code held.now route.old.route } }
+{
+    match held {
+        None => remove_if(route, code, had),
+        Some(attr) => {
+            let _ = route.set(code, attr.flags(), attr.value(), MAX_CANONICAL);
+        }
+    }
+}
+
+// Makes the AS_PATH of a route what is held, in the place that it has, and removes what the route has for the other
+// three codes, so that the section is never longer than with all that is to be set.
+fn replace_path(route: &mut Overlay, had: Had, path: &Option<Held<'_>>)
+    requires shape { IsRoute route.old.route }
+    requires had { had ≡ had_of (four_of route.old.route) }
+    requires room { length (canon (bare route.old.route)) + size_if path.now ≤ MAX_CANONICAL }
+    ensures after { route.new ≡ record route.old { route = set_in AS_PATH path.now (bare route.old.route) } }
+    ensures bound { length (canon route.new.route) ≤ length (canon (bare route.old.route)) + size_if path.now }
+{
+    remove_if(route, AGGREGATOR, had.aggregator);
+    remove_if(route, AS4_PATH, had.path4);
+    remove_if(route, AS4_AGGREGATOR, had.aggregator4);
+    replace(route, AS_PATH, had.path, path);
 }
 
 // Sets an attribute, for which there is room, if there is one to set.
@@ -128,21 +182,20 @@ fn set_if(route: &mut Overlay, code: u8, held: &Option<Held<'_>>)
     }
 }
 
-/// Replaces what the route has for the four codes, which is `had` octets, and returns true, or false, with nothing
+/// Replaces what the route has for the four codes, of which `had` tells, and returns true, or false, with nothing
 /// changed, if the canonical section would then have more than `limit` octets.
-pub(crate) fn rebuild(route: &mut Overlay, had: usize, four: &Four<'_>, limit: usize) -> bool
+pub(crate) fn rebuild(route: &mut Overlay, had: Had, four: &Four<'_>, limit: usize) -> bool
     requires shape { IsRoute route.old.route }
-    requires had { had ≡ four_size (four_of route.old.route) }
+    requires had { had ≡ had_of (four_of route.old.route) }
     requires limit { limit ≤ MAX_CANONICAL }
     ensures fits { result ≡ nat_le (length (canon (rebuilt four.now route.old.route))) limit }
     ensures after { MatchBool result
         (route.new ≡ record route.old { route = rebuilt four.now route.old.route }) (route.new ≡ route.old) }
 {
-    if rebuilt_len(route, had, four) > limit {
+    if rebuilt_len(route, had.octets, four) > limit {
         return false;
     }
-    make_bare(route);
-    set_if(route, AS_PATH, &four.path);
+    replace_path(route, had, &four.path);
     set_if(route, AGGREGATOR, &four.aggregator);
     set_if(route, AS4_PATH, &four.path4);
     set_if(route, AS4_AGGREGATOR, &four.aggregator4);

@@ -5,7 +5,7 @@ ghost use Rattle.bgp_attr.specs.Routes.{canon};
 ghost use Rattle.spk_native.specs.Receipt.{inflow, narrow, without_narrow as without_both};
 ghost use Rattle.spk_native.specs.Values.{HasNoFault, IsFaultless};
 
-use crate::four::{USUAL, entry_len, four_in, four_len, rebuild};
+use crate::four::{USUAL, entry_len, four_in, had_in, rebuild};
 use crate::narrow::{NARROW_AGGREGATOR, narrow_four};
 use crate::wide::{TooLong, WIDE_AGGREGATOR, wide_four};
 use bgp_attr::MAX_CANONICAL;
@@ -73,9 +73,9 @@ fn narrow_within(
 {
     let mut aggregator = [0u8; NARROW_AGGREGATOR];
     let had = four_in(route);
-    let len = four_len(&had);
+    let held = had_in(&had);
     let four = narrow_four(&had, path, &mut aggregator, path4, aggregator4);
-    rebuild(route, len, &four, MAX_SECTION)
+    rebuild(route, held, &four, MAX_SECTION)
 }
 
 // Removes AS4_PATH and AS4_AGGREGATOR, if what is left is short enough.
@@ -148,7 +148,7 @@ fn widen_within(route: &mut Overlay, path: &mut [u8]) -> Result<bool, TooLong>
 {
     let mut aggregator = [0u8; WIDE_AGGREGATOR];
     let had = four_in(route);
-    let len = four_len(&had);
+    let held = had_in(&had);
     let four = wide_four(&had, path, &mut aggregator)?;
-    Ok(rebuild(route, len, &four, MAX_MESSAGE))
+    Ok(rebuild(route, held, &four, MAX_MESSAGE))
 }
