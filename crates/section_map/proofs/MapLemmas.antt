@@ -1,8 +1,8 @@
 -- What is found for a section, and what a change of the first sections or of the rest makes of it.
-use Rattle.std.proofs.Common.{◌≡◌, ◌≢◌, ◌⊎◌, ℕ, List, [], Bool, Option, Some, None, is_some, IsSome, true, false}
+use Rattle.std.proofs.Common.{◌≡◌, ◌≢◌, ◌⊎◌, ℕ, List, [], Option, Some, None, is_some, IsSome, true, false}
 use Rattle.std.proofs.Common.{cond, inl, inr, Vec, refl, sym, ap, ◌∙◌, rules}
 use Rattle.std.specs.Borrow.{MutBor}
-use Rattle.std.specs.Option.{OnSome, option_copied_mut, option_map}
+use Rattle.std.specs.Option.{OnSome, option_copied_mut}
 use Rattle.std.specs.Prelude.{not}
 use Rattle.std.specs.BTreeMap.{BTreeMap, IsUnchanged, Updates, UpdatesBy, get, get_by, is_at}
 use Rattle.std.specs.Cmp.{eq_by_cmp_equiv}
@@ -61,11 +61,10 @@ pub is_some_from : {A : Type 0} (o : Option A) (x : A) → o ≡ Some x → IsSo
 is_some_from None x is = absurd (cc is)
 is_some_from (Some y) x is = search rules
 
--- whether a value was found that is lent
-pub found_not : {A B : Type 0} (f : A → B) (x : Option A) (y : Option B) (b : Bool) → option_map f x ≡ y
-    → is_some x ≡ not b → is_some y ≡ not b
-found_not f None y b is some = ap is_some (sym is) ∙ some
-found_not f (Some a) y b is some = ap is_some (sym is) ∙ some
+-- what is true of a value that is lent
+pub on_some : {A P : Type 0} (x : Option (MutBor A)) → (is_some (option_copied_mut x) ≡ true → P) → OnSome x P
+on_some None p = tt
+on_some (Some a) p = p refl
 
 module _ {V : Type 0} where
   -- the first section of a sum is this section, or another
@@ -98,6 +97,10 @@ module _ {V : Type 0} where
   value_or-none None y none = refl
   value_or-none (Some v) y none = absurd (cc none)
 
+  value_or-some : (x y : Option V) → is_some x ≡ true → value_or x y ≡ x
+  value_or-some None y some = absurd (cc some)
+  value_or-some (Some v) y some = refl
+
   value_or-both : (x w y z : Option V) → x ≡ w → y ≡ z → value_or x y ≡ value_or w z
   value_or-both x w y z p q = ap (λ x. value_or x y) p ∙ ap (value_or w) q
 
@@ -111,11 +114,11 @@ module _ {V : Type 0} where
       (λ x y. (eq_by_cmp_equiv nat_list_cmp_total).congr t x.items y.items)
       (λ k here. apart_at s t k apart here)
 
-  -- the first sections after a change at a sum, for each other section
-  value_if-updated : (old new : BTreeMap ℕ (First V)) (s q : List ℕ) (sum : ℕ) (w : Option (First V))
+  -- the first sections after a change at a sum, for a section that it leaves what it had
+  value_if-updated : (old new : BTreeMap ℕ (First V)) (q : List ℕ) (sum : ℕ) (w : Option (First V))
       → Updates nat_cmp old new sum w → value_if w q ≡ value_if (get nat_cmp old sum) q
       → value_if (get nat_cmp new (sum_of q)) q ≡ value_if (get nat_cmp old (sum_of q)) q
-  value_if-updated old new s q sum w updates same = elim (cases_eq (sum_of q) sum) [
+  value_if-updated old new q sum w updates same = elim (cases_eq (sum_of q) sum) [
     | inl at ↦
         ap (λ n. value_if (get nat_cmp new n) q) at ∙ ap (λ slot. value_if slot q) updates.1 ∙ same
         ∙ sym (ap (λ n. value_if (get nat_cmp old n) q) at)
@@ -124,21 +127,25 @@ module _ {V : Type 0} where
         (updates.2 (sum_of q) (is_eq-false (nat_cmp sum (sum_of q)) (λ tie. not (sym (exact_unsigned sum (sum_of q) tie)))))
   ]
 
-  module _ (map : SectionMap V) (s : List ℕ) (sum : ℕ) (at : sum ≡ sum_of s) where
-    -- the value of a section that is the first of its sum
-    pub at_section-first : (v : V) → value_if (get nat_cmp map.firsts sum) s ≡ Some v → at_section map s ≡ Some v
-    unfolding at_section
-    at_section-first v found =
-        ap (λ x. value_or x (get_by (compared s) map.rest))
-        (ap (λ n. value_if (get nat_cmp map.firsts n) s) (sym at) ∙ found)
-
-    -- the value of another
-    pub at_section-rest : value_if (get nat_cmp map.firsts sum) s ≡ None
+  module _ (map : SectionMap V) (s : List ℕ) where
+    -- the value of a section of the rest
+    pub at_section-rest : is_some (get_by (compared s) map.rest) ≡ true
         → at_section map s ≡ get_by (compared s) map.rest
     unfolding at_section
-    at_section-rest none =
-        ap (λ x. value_or x (get_by (compared s) map.rest))
-        (ap (λ n. value_if (get nat_cmp map.firsts n) s) (sym at) ∙ none)
+    at_section-rest some = value_or-some _ _ some
+
+    -- the value of another
+    pub at_section-first : (sum : ℕ) → sum ≡ sum_of s → get_by (compared s) map.rest ≡ None
+        → at_section map s ≡ value_if (get nat_cmp map.firsts sum) s
+    unfolding at_section
+    at_section-first sum at none =
+        ap (λ x. value_or x (value_if (get nat_cmp map.firsts (sum_of s)) s)) none
+        ∙ ap (λ n. value_if (get nat_cmp map.firsts n) s) (sym at)
+
+    -- a section without a value is not of the rest
+    pub at_section-free : at_section map s ≡ None → get_by (compared s) map.rest ≡ None
+    unfolding at_section
+    at_section-free free = value_or-none _ _ free
 
   module _ (old new : SectionMap V) where
     -- maps with the same entries
@@ -147,39 +154,47 @@ module _ {V : Type 0} where
     unfolding at_section
     SameSections-entries firsts rest q =
         value_or-both _ _ _ _
-        (ap (λ es. value_if (lookup (is_at (nat_cmp (sum_of q))) es) q) firsts)
         (ap (lookup (is_at (compared q))) rest)
+        (ap (λ es. value_if (lookup (is_at (nat_cmp (sum_of q))) es) q) firsts)
+
+    -- a first section put in its own place
+    pub SameSections-first : (sum : ℕ) (first : First V) → get nat_cmp old.firsts sum ≡ Some first
+        → Updates nat_cmp old.firsts new.firsts sum (Some first) → new.rest ≡ old.rest → SameSections old new
+    unfolding at_section
+    SameSections-first sum first there updates rest q =
+        value_or-both _ _ _ _
+        (ap (get_by (compared q)) rest)
+        (value_if-updated old.firsts new.firsts q sum (Some first) updates (ap (λ slot. value_if slot q) (sym there)))
 
     -- a change of the first sections
     pub ChangesAt-first : (s : List ℕ) (sum : ℕ) (first : First V) → sum ≡ sum_of s → first.section.items ≡ s
+        → get_by (compared s) old.rest ≡ None
         → ((q : List ℕ) → q ≢ s → value_if (get nat_cmp old.firsts sum) q ≡ None)
         → Updates nat_cmp old.firsts new.firsts sum (Some first) → new.rest ≡ old.rest
         → ChangesAt old new s (Some first.value)
     unfolding at_section
-    ChangesAt-first s sum first at same free updates rest = record {
+    ChangesAt-first s sum first at same none free updates rest = record {
       changed =
-          at_section-first new s sum at first.value (value_if-same _ first s updates.1 same);
+          at_section-first new s sum at (ap (get_by (compared s)) rest ∙ none)
+          ∙ value_if-same _ first s updates.1 same;
       others = λ q apart.
           value_or-both _ _ _ _
-          (value_if-updated old.firsts new.firsts s q sum (Some first) updates
-          (value_if-other first q (λ also. apart (sym also ∙ same)) ∙ sym (free q apart)))
-          (ap (get_by (compared q)) rest);
+          (ap (get_by (compared q)) rest)
+          (value_if-updated old.firsts new.firsts q sum (Some first) updates
+          (value_if-other first q (λ also. apart (sym also ∙ same)) ∙ sym (free q apart)));
     }
 
     -- a change of the rest
-    pub ChangesAt-rest : (s : List ℕ) (v : V) → value_if (get nat_cmp old.firsts (sum_of s)) s ≡ None
-        → new.firsts ≡ old.firsts → UpdatesBy section_cmp (compared s) old.rest new.rest (Some v)
-        → ChangesAt old new s (Some v)
+    pub ChangesAt-rest : (s : List ℕ) (v : V) → new.firsts ≡ old.firsts
+        → UpdatesBy section_cmp (compared s) old.rest new.rest (Some v) → ChangesAt old new s (Some v)
     unfolding at_section
-    ChangesAt-rest s v none firsts updates = record {
-      changed = value_or-both _ _ _ _ (still s ∙ none) updates.1;
+    ChangesAt-rest s v firsts updates = record {
+      changed = ap (λ x. value_or x (value_if (get nat_cmp new.firsts (sum_of s)) s)) updates.1;
       others = λ q apart.
-          value_or-both _ _ _ _ (still q) (get_by-updated old.rest new.rest s q (Some v) updates apart);
+          value_or-both _ _ _ _
+          (get_by-updated old.rest new.rest s q (Some v) updates apart)
+          (ap (λ firsts. value_if (get nat_cmp firsts (sum_of q)) q) firsts);
     }
-      where
-        still : (q : List ℕ)
-            → value_if (get nat_cmp new.firsts (sum_of q)) q ≡ value_if (get nat_cmp old.firsts (sum_of q)) q
-        still q = ap (λ firsts. value_if (get nat_cmp firsts (sum_of q)) q) firsts
 
     -- a section that is not the first of its sum is gone from the rest
     pub ChangesAt-removed : (mid : SectionMap V) (s : List ℕ) → mid.rest ≡ old.rest
@@ -190,30 +205,16 @@ module _ {V : Type 0} where
         → ChangesAt old new s None
     unfolding at_section
     ChangesAt-removed mid s kept none others firsts updates = record {
-      changed = value_or-both _ _ _ _ (still s ∙ none) updates.1;
+      changed = value_or-both _ _ _ _ updates.1 (still s ∙ none);
       others = λ q apart.
-          value_or-both _ _ _ _ (still q ∙ others q apart)
-          (get_by-updated mid.rest new.rest s q None updates apart ∙ ap (get_by (compared q)) kept);
+          value_or-both _ _ _ _
+          (get_by-updated mid.rest new.rest s q None updates apart ∙ ap (get_by (compared q)) kept)
+          (still q ∙ others q apart);
     }
       where
         still : (q : List ℕ)
             → value_if (get nat_cmp new.firsts (sum_of q)) q ≡ value_if (get nat_cmp mid.firsts (sum_of q)) q
         still q = ap (λ firsts. value_if (get nat_cmp firsts (sum_of q)) q) firsts
-
-    -- a section without a value is not the first of its sum
-    pub value_if-free : (s : List ℕ) → at_section old s ≡ None → value_if (get nat_cmp old.firsts (sum_of s)) s ≡ None
-    unfolding at_section
-    value_if-free s free = value_or-none _ _ free
-
-    -- what is written through a value of the rest
-    pub ChangesAt-lent : (s : List ℕ) (w : V) (lent : Option (MutBor V))
-        → value_if (get nat_cmp old.firsts (sum_of s)) s ≡ None → new.firsts ≡ old.firsts
-        → option_copied_mut lent ≡ get_by (compared s) old.rest
-        → (IsSome (get_by (compared s) old.rest) → UpdatesBy section_cmp (compared s) old.rest new.rest (Some w))
-        → OnSome lent (ChangesAt old new s (Some w))
-    ChangesAt-lent s w None none firsts there updates = tt
-    ChangesAt-lent s w (Some lent) none firsts there updates =
-        ChangesAt-rest s w none firsts (updates (is_some_from _ lent.now (sym there)))
 
   -- no section has a value in a map without entries
   pub at_section-empty : (map : SectionMap V) → map.firsts.entries ≡ [] → map.rest.entries ≡ [] → (s : List ℕ)

@@ -22,8 +22,8 @@ module _ {V : Type 0} where
   -- the value of a section
   unfoldable pub at_section : SectionMap V → List ℕ → Option V
   at_section map section =
-      value_or (value_if (get nat_cmp map.firsts (sum_of section)) section)
-      (get_by (λ k. slice_cmp nat_cmp section k.items) map.rest)
+      value_or (get_by (λ k. slice_cmp nat_cmp section k.items) map.rest)
+      (value_if (get nat_cmp map.firsts (sum_of section)) section)
 
   -- a section has another value or none, and each other section what it had
   pub record ChangesAt (old new : SectionMap V) (section : List ℕ) (value : Option V) : Type 0 where

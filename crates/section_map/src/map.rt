@@ -4,7 +4,7 @@ ghost use Rattle.std.specs.BTreeMap.{get};
 ghost use Rattle.std.specs.Borrow.{sem};
 ghost use Rattle.std.specs.Option.{option_map, option_copied_mut};
 ghost use Rattle.std.specs.Ordering.{nat_cmp};
-ghost use Rattle.section_map.specs.Lends.{lends_at};
+ghost use Rattle.section_map.specs.Lends.{lends_at, lends_value};
 ghost use Rattle.section_map.specs.Sums.{sum_of};
 ghost use Rattle.section_map.specs.Sections.{ChangesAt, SameSections, at_section, value_if};
 
@@ -17,6 +17,19 @@ use std::collections::BTreeMap;
 struct First<V> {
     section: Vec<u8>,
     value: V,
+}
+
+impl<V> First<V> {
+    // The value for writing, if the section is this one.
+    fn value_mut(&mut self, section: &[u8]) -> Option<&mut V>
+        ensures* writes_back { sem 𝓛 (lends_value V.row self.entry result) }
+        ensures value { option_copied_mut result ≡ value_if (Some self.old) section.now }
+    {
+        if self.section.as_slice() == section {
+            return Some(&mut self.value);
+        }
+        None
+    }
 }
 
 /// A map from sections to values.
@@ -54,10 +67,10 @@ impl<V> SectionMap<V> {
     pub fn get(&self, section: &[u8]) -> Option<&V>
         ensures { option_map (λ v. v.now) result ≡ at_section self.now section.now }
     {
-        if let Some(value) = self.first_value(section, sum_of(section)) {
+        if let Some(value) = self.rest.get(section) {
             return Some(value);
         }
-        self.rest.get(section)
+        self.first_value(section, sum_of(section))
     }
 
     /// The value of a section for writing, if it has one.
@@ -65,14 +78,11 @@ impl<V> SectionMap<V> {
         ensures* writes_back { sem 𝓛 (lends_at V.row self.entry section.now result) }
         ensures value { option_copied_mut result ≡ at_section self.old section.now }
     {
-        let sum = sum_of(section);
-        if self.first_value(section, sum).is_none() {
+        if self.rest.contains_key(section) {
             return self.rest.get_mut(section);
         }
-        match self.firsts.get_mut(&sum) {
-            Some(first) => Some(&mut first.value),
-            None => None,
-        }
+        let first = self.firsts.get_mut(&sum_of(section))?;
+        first.value_mut(section)
     }
 }
 

@@ -1,5 +1,6 @@
-use Rattle.std.proofs.Common.{◌≡◌, suc, ◌+◌, ◌*◌, ◌/◌, ◌%◌, length, refl, ap, ◌∙◌, arith}
-use Rattle.section_map.specs.Sums.{mixed, octets_sum, sum_of, words_sum}
+use Rattle.std.proofs.Common.{◌≡◌, ◌+◌, ◌-◌, [], length, drop, refl, sym, ap, ◌∙◌}
+use Rattle.std.proofs.lemmas.List.{at_drop_all, at_drop_more}
+use Rattle.section_map.specs.Sums.{mixed, number_of, sum_of, words_sum}
 use Rattle.section_map.specs.declared.sum.TheConstants.{WORD}
 use Rattle.section_map.proofs.sum.sum_of.Goals as goal
 
@@ -8,32 +9,20 @@ words-init c = refl
 
 pub words-preserved : goal.words-preserved
 words-preserved c =
-    let s = c.args.section.now in
-    let next : suc c.words.i ≡ c.words.i + 1 = omega arith in
-    c.mix-sum.ensures
-    ∙ ap (λ sum. mixed sum c.word_at.result) c.words.invariant
-    ∙ ap (mixed (words_sum s c.words.i)) c.word_at.ensures
-    ∙ ap (words_sum s) next
-
-pub octets-init : goal.octets-init
-octets-init c =
-    let all : c.words.i ≡ length c.args.section.now / WORD = omega (arith, c.words-test.false, c.words.auto.i-end) in
-    c.words.invariant ∙ ap (words_sum c.args.section.now) all
-
-pub octets-preserved : goal.octets-preserved
-octets-preserved c =
-    let s = c.args.section.now in
-    let words = length s / WORD in
-    let next : suc c.octets.i ≡ c.octets.i + 1 = omega arith in
-    c.mix-sum-in-octets.ensures
-    ∙ ap (λ sum. mixed sum c.from.result) c.octets.invariant
-    ∙ ap (mixed (octets_sum s (words * WORD) (words_sum s words) c.octets.i)) c.from.ensures
-    ∙ ap (octets_sum s (words * WORD) (words_sum s words)) next
+    let words = c.as_chunks.result.0.now in
+    ap (λ sum. words_sum sum (drop (c.words.word-index + 1) words))
+    (c.mix-sum.ensures ∙ ap (mixed c.words.sum) c.from_be_bytes.ensures)
+    ∙ sym (at_drop_more (words_sum c.words.sum) words c.words.word-index [] c.words-test.true)
+    ∙ c.words.invariant
 
 pub returns : goal.returns
 unfolding sum_of
 returns c =
     let s = c.args.section.now in
-    let words = length s / WORD in
-    let all : c.octets.i ≡ length s % WORD = omega (arith, c.octets-test.false, c.octets.auto.i-end) in
-    c.octets.invariant ∙ ap (octets_sum s (words * WORD) (words_sum s words)) all
+    let words = c.as_chunks.result.0.now in
+    let sum : c.words.sum ≡ words_sum (length s) words =
+    sym (at_drop_all (words_sum c.words.sum) words c.words.word-index c.words-test.false) ∙ c.words.invariant in
+    c.mix.ensures
+    ∙ ap (mixed c.words.sum) c.last_number.ensures
+    ∙ ap (λ sum. mixed sum (number_of (drop (length s - WORD) s))) sum
+    ∙ ap (λ words. mixed (words_sum (length s) words) (number_of (drop (length s - WORD) s))) c.as_chunks.ensures.front
