@@ -1,15 +1,38 @@
-// Sections in the form of a session, in which AS numbers have four octets or two.
-ghost use Rattle.std.specs.Prelude.{◌≡◌, ◌≤◌, length, Some, None, MatchBool};
+// Sections, and the form of a session, in which AS numbers have four octets or two.
+ghost use Rattle.std.specs.Prelude.{◌≡◌, ◌≤◌, [], length, Some, None, IfOk, MatchBool};
 ghost use Rattle.bgp_attr.specs.Routes.{route_of, IsRoute};
 ghost use Rattle.spk_native.specs.Receipt.{wire};
 ghost use Rattle.spk_native.specs.Values.{HasNoFault};
 ghost use Rattle.spk_model.specs.Exporting.{short_enough};
+ghost use Rattle.spk_routes.specs.Rooms.{HaveRoom};
 
 use bgp_attr::MAX_CANONICAL;
 use spk_native::narrow_route;
+use std::alloc::{AllocError, Global};
 use xb_values::Buf;
 use xb_wire::numbers::MAX_SECTION;
 use xbgp_view::{Overlay, RouteView, write_section};
+
+/// The buffers of sections: what the native function writes, what programs give, and what is advertised.
+#[derive(Drop)]
+pub(crate) struct Sections {
+    pub(crate) native: Buf,
+    pub(crate) given: Buf,
+    pub(crate) sent: Buf,
+}
+
+impl Sections {
+    /// Empty buffers. The error is want of memory.
+    pub(crate) fn make(alloc: Global) -> Result<Sections, AllocError>
+        ensures { IfOk result (λ s. HaveRoom s × (s.sent.octets ≡ [])) }
+    {
+        Ok(Sections {
+            native: Buf::make(alloc, MAX_CANONICAL)?,
+            given: Buf::make(alloc, MAX_CANONICAL)?,
+            sent: Buf::make(alloc, MAX_CANONICAL)?,
+        })
+    }
+}
 
 /// Shows contracts that an overlay has a route that a view may show.
 pub(crate) fn see_shape(route: &Overlay)

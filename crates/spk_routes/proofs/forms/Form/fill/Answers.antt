@@ -9,7 +9,7 @@ use Rattle.spk_routes.proofs.forms.Form.fill.Goals as goal
 
 pub write_form-self-requires-clause-faultless : goal.write_form-self-requires-clause-faultless
 write_form-self-requires-clause-faultless c =
-    let read : c.read.new.self.route ≡ route_of c.args.section.now = ap (λ (e : Edited). e.route) c.read.ensures in
+    let read : c.read.new.self.route ≡ route_of c.args.from.now = ap (λ (e : Edited). e.route) c.read.ensures in
     let carried = ap (λ (e : Edited). e.route) c.export_attrs.ensures.carried in
     let faultless : HasNoFault c.export_attrs.new.route.route =
     subst HasNoFault (sym carried)
