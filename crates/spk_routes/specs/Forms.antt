@@ -27,17 +27,18 @@ formed t best = short_enough (wire (native_section (carried t best)) t.wide)
 abbrev pub IsWritten : Bool → List ℕ → Option (List ℕ) → Type 0
 IsWritten sent octets section = MatchBool sent (section ≡ Some octets) (section ≡ None)
 
--- a form that was made is what is sent of the route of a section; it has room for any canonical section
-pub record IsForm (f : Form) (from : List ℕ) : Type 0 where
+-- a form that was made is what is sent of the best route; it has room for any canonical section
+pub record IsForm (f : Form) (best : Route) : Type 0 where
   pub room : f.section.capacity ≡ MAX_CANONICAL
-  pub meaning : IfSome f.terms (λ t. IsWritten f.fits f.section.octets (formed t (route_of from)))
+  pub meaning : IfSome f.terms (λ t. IsWritten f.fits f.section.octets (formed t best))
 
--- both forms are of the section that is kept; each buffer has room for any canonical section
-pub record HaveForms (f : Forms) : Type 0 where
+-- both forms are of the best route, of which the section is kept; each buffer has room for any canonical section
+pub record HaveForms (f : Forms) (best : Route) : Type 0 where
   pub room : f.from.capacity ≡ MAX_CANONICAL
   pub next : f.next.capacity ≡ MAX_CANONICAL
-  pub external : IsForm f.external f.from.octets
-  pub internal : IsForm f.internal f.from.octets
+  pub from : route_of f.from.octets ≡ best
+  pub external : IsForm f.external best
+  pub internal : IsForm f.internal best
 
 -- terms by which peers are sent the same of any route
 pub record AreAlike (a b : Terms) : Type 0 where

@@ -39,8 +39,6 @@ pub struct Exporter {
 }
 
 impl Model for Exporter {
-    ghost use Rattle.std.specs.Prelude.{◌≡◌};
-    ghost use Rattle.bgp_attr.specs.Routes.{route_of};
     ghost use Rattle.spk_routes.specs.Exports.{Exporting};
     ghost use Rattle.spk_routes.specs.Forms.{HaveForms};
     ghost use Rattle.spk_routes.specs.Rooms.{HaveRoom};
@@ -49,10 +47,7 @@ impl Model for Exporter {
 
     ghost view = { λ e. record { best = e.best.route; section = e.sections.sent.octets } };
 
-    ghost invariant = { λ e.
-        HaveRoom e.sections
-        × HaveForms e.forms
-        × (route_of e.forms.from.octets ≡ e.best.route) };
+    ghost invariant = { λ e. HaveRoom e.sections × HaveForms e.forms e.best.route };
 }
 
 /// Whether a chain accepts: by its verdict, which is 1, or else as the native function does.
@@ -171,8 +166,7 @@ impl Exporter {
     pub fn load<R: RouteView>(&mut self, best: &R)
         ensures { self.new ≡ record self.old { best = R.route best.now } }
     {
-        self.best.load(best);
-        self.forms.load(&self.best);
+        self.forms.load(&mut self.best, best);
     }
 
     /// The section that was written last.
@@ -206,9 +200,7 @@ impl Exporter {
             return false;
         }
         if runs_none(engine) {
-            return self
-                .forms
-                .write(config, peer, wide, &mut self.route, &mut self.sections);
+            return self.forms.write(config, peer, wide, &mut self.best, &mut self.sections.sent);
         }
         if !pass_outbound(
             &mut self.route,

@@ -1,24 +1,23 @@
 // What peers of one kind are sent of the best route if no program runs. It is the same for all of them, so it is
 // written once and kept until a route with another section is loaded.
-ghost use Rattle.std.specs.Prelude.{◌≡◌, ◌≤◌, ℕ, List, [], length, IfOk, IsTrue};
+ghost use Rattle.std.specs.Prelude.{◌≡◌, [], IfOk, IsTrue};
 ghost use Rattle.std.specs.Bool.{OnTrue};
-ghost use Rattle.bgp_attr.specs.Routes.{route_of};
+ghost use Rattle.bgp_attr.specs.Routes.{Route};
 ghost use Rattle.xbgp_config.specs.Configs.{is_host_address};
 ghost use Rattle.spk_native.specs.Filters.{is_external};
 ghost use Rattle.spk_routes.specs.Forms.{formed, AreAlike, HaveForms, IsBy, IsForm, IsWritten};
-ghost use Rattle.spk_routes.specs.Rooms.{HaveRoom};
 ghost use Rattle.spk_routes.specs.Sound.{IsSound};
 
-use crate::section::{Sections, see_shape, write_form};
+use crate::section::{copy_section, see_shape, write_sent};
 use crate::sides::{local_of, local_pref_of};
 use bgp_attr::MAX_CANONICAL;
-use spk_native::{EXTERNAL, export_attrs, native_section};
+use spk_native::{EXTERNAL, export_attrs};
 use std::alloc::{AllocError, Global};
 use std::mem;
 use xb_domain::Side;
 use xb_values::Buf;
 use xbgp_config::Config;
-use xbgp_view::{Overlay, write_section};
+use xbgp_view::{Overlay, RouteView};
 
 /// What a peer is sent of a route depends on this alone.
 #[derive(Clone, Copy)]
@@ -29,22 +28,22 @@ pub(crate) struct Terms {
     pub(crate) local_pref: u32,
 }
 
-/// What is sent of a route by some terms.
+/// What is sent of the best route by some terms.
 #[derive(Drop)]
 pub(crate) struct Form {
-    // None if it was not made since the route came.
+    // None if it was not made since the route was loaded.
     pub(crate) terms: Option<Terms>,
     // Whether what is sent is short enough.
     pub(crate) fits: bool,
     pub(crate) section: Buf,
 }
 
-/// What external and internal peers are sent of the route that was loaded last.
+/// What external and internal peers are sent of the best route, which was loaded last.
 #[derive(Drop)]
 pub(crate) struct Forms {
-    // The canonical section of the route.
+    // The canonical section of the best route.
     pub(crate) from: Buf,
-    // That of a route that is loaded.
+    // That of the next one, while it is loaded.
     pub(crate) next: Buf,
     pub(crate) external: Form,
     pub(crate) internal: Form,
@@ -82,7 +81,7 @@ fn are_alike(a: &Terms, b: &Terms) -> bool
 impl Form {
     // A form that was not made yet. The error is want of memory.
     fn make(alloc: Global) -> Result<Form, AllocError>
-        ensures { IfOk result (λ f. (from : List ℕ) → IsForm f from) }
+        ensures { IfOk result (λ f. (best : Route) → IsForm f best) }
     {
         Ok(Form {
             terms: None,
@@ -94,7 +93,7 @@ impl Form {
     // Forgets what was made.
     fn forget(&mut self)
         requires { self.old.section.capacity ≡ MAX_CANONICAL }
-        ensures { (from : List ℕ) → IsForm self.new from }
+        ensures { (best : Route) → IsForm self.new best }
     {
         self.terms = None;
     }
@@ -109,59 +108,41 @@ impl Form {
         }
     }
 
-    // Makes it of a canonical section.
-    fn fill(
-        &mut self,
-        terms: Terms,
-        from: &[u8],
-        peer: &Side,
-        route: &mut Overlay,
-        native: &mut Buf,
-    )
-        requires form { IsForm self.old from.now }
+    // Makes it of the best route, which is as before afterwards.
+    fn fill(&mut self, terms: Terms, peer: &Side, best: &mut Overlay)
+        requires room { self.old.section.capacity ≡ MAX_CANONICAL }
         requires kind { terms.external ≡ is_external peer.now }
         requires address { IsTrue (is_host_address (terms.local).address) }
-        requires short { length from.now ≤ MAX_CANONICAL }
-        requires sound { IsSound (route_of from.now) }
-        requires room { native.old.capacity ≡ MAX_CANONICAL }
-        ensures form { IsForm self.new from.now }
+        requires sound { IsSound best.old.route }
+        ensures form { IsForm self.new best.old.route }
         ensures by { IsBy self.new terms }
-        ensures room { native.new.capacity ≡ MAX_CANONICAL }
+        ensures best { best.new.route ≡ best.old.route }
     {
-        route.read(from);
-        see_shape(route);
-        export_attrs(route, peer, peer, &terms.local, terms.local_pref);
-        see_shape(route);
-        native_section(route, native);
-        self.fits = write_form(native.as_slice(), terms.wide, route, &mut self.section);
+        best.keep();
+        see_shape(best);
+        export_attrs(best, peer, peer, &terms.local, terms.local_pref);
+        self.fits = write_sent(best, terms.wide, &mut self.section);
+        best.back();
         self.terms = Some(terms);
     }
 
-    // Writes what a peer is sent of the route of a canonical section, and returns whether it is short enough. It is
-    // made only once.
-    fn write(
-        &mut self,
-        terms: Terms,
-        from: &[u8],
-        peer: &Side,
-        route: &mut Overlay,
-        sections: &mut Sections,
-    ) -> bool
-        requires form { IsForm self.old from.now }
+    // Writes what a peer is sent of the best route, and returns whether it is short enough. It is made only once.
+    fn write(&mut self, terms: Terms, peer: &Side, best: &mut Overlay, out: &mut Buf) -> bool
+        requires form { IsForm self.old best.old.route }
         requires kind { terms.external ≡ is_external peer.now }
         requires address { IsTrue (is_host_address (terms.local).address) }
-        requires short { length from.now ≤ MAX_CANONICAL }
-        requires sound { IsSound (route_of from.now) }
-        requires room { HaveRoom sections.old }
-        ensures written { IsWritten result sections.new.sent.octets (formed terms (route_of from.now)) }
-        ensures form { IsForm self.new from.now }
-        ensures room { HaveRoom sections.new }
+        requires sound { IsSound best.old.route }
+        requires room { out.old.capacity ≡ MAX_CANONICAL }
+        ensures written { IsWritten result out.new.octets (formed terms best.old.route) }
+        ensures form { IsForm self.new best.old.route }
+        ensures best { best.new.route ≡ best.old.route }
+        ensures room { out.new.capacity ≡ MAX_CANONICAL }
     {
         if !self.is_by(&terms) {
-            self.fill(terms, from, peer, route, &mut sections.native);
+            self.fill(terms, peer, best);
         }
         if self.fits {
-            sections.sent.replace(self.section.as_slice());
+            out.replace(self.section.as_slice());
         }
         self.fits
     }
@@ -170,7 +151,7 @@ impl Form {
 impl Forms {
     /// Forms of the route without attributes. The error is want of memory.
     pub(crate) fn make(alloc: Global) -> Result<Forms, AllocError>
-        ensures { IfOk result (λ f. HaveForms f × (f.from.octets ≡ [])) }
+        ensures { IfOk result (λ f. HaveForms f []) }
     {
         Ok(Forms {
             from: Buf::make(alloc, MAX_CANONICAL)?,
@@ -180,13 +161,14 @@ impl Forms {
         })
     }
 
-    /// Makes them the forms of a route. What was made is forgotten if the route has another section than the last one.
-    pub(crate) fn load(&mut self, best: &Overlay)
-        requires { HaveForms self.old }
-        ensures forms { HaveForms self.new }
-        ensures from { route_of self.new.from.octets ≡ best.now.route }
+    /// Makes a route the best one. What was made is forgotten if it has another section than the best one before.
+    pub(crate) fn load<R: RouteView>(&mut self, best: &mut Overlay, route: &R)
+        requires { HaveForms self.old best.old.route }
+        ensures forms { HaveForms self.new best.new.route }
+        ensures best { best.new ≡ record best.old { route = R.route route.now } }
     {
-        write_section(best, &mut self.next);
+        best.load(route);
+        copy_section(best, &mut self.next);
         if self.next.as_slice() == self.from.as_slice() {
             return;
         }
@@ -195,19 +177,20 @@ impl Forms {
         self.internal.forget();
     }
 
-    /// Writes what a peer is sent of the route if no program runs, and returns whether it is short enough.
+    /// Writes what a peer is sent of the best route if no program runs, and returns whether it is short enough. The
+    /// best route is as before afterwards.
     pub(crate) fn write(
         &mut self,
         config: &Config,
         peer: &Side,
         wide: bool,
-        route: &mut Overlay,
-        sections: &mut Sections,
+        best: &mut Overlay,
+        out: &mut Buf,
     ) -> bool
-        requires forms { HaveForms self.old }
-        requires sound { IsSound (route_of self.old.from.octets) }
-        requires room { HaveRoom sections.old }
-        ensures written { IsWritten result sections.new.sent.octets
+        requires forms { HaveForms self.old best.old.route }
+        requires sound { IsSound best.old.route }
+        requires room { out.old.capacity ≡ MAX_CANONICAL }
+        ensures written { IsWritten result out.new.octets
             (formed
             (record {
               external = is_external peer.now;
@@ -215,17 +198,16 @@ impl Forms {
               local = config.now.local;
               local_pref = config.now.local_pref;
             })
-            (route_of self.old.from.octets)) }
-        ensures forms { HaveForms self.new }
-        ensures from { self.new.from ≡ self.old.from }
-        ensures room { HaveRoom sections.new }
+            best.old.route) }
+        ensures forms { HaveForms self.new best.old.route }
+        ensures best { best.new.route ≡ best.old.route }
+        ensures room { out.new.capacity ≡ MAX_CANONICAL }
     {
         let terms = terms_of(config, peer, wide);
-        let from = self.from.as_slice();
         if peer.kind == EXTERNAL {
-            self.external.write(terms, from, peer, route, sections)
+            self.external.write(terms, peer, best, out)
         } else {
-            self.internal.write(terms, from, peer, route, sections)
+            self.internal.write(terms, peer, best, out)
         }
     }
 }

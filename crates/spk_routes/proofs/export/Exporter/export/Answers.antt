@@ -1,5 +1,3 @@
-use Rattle.std.proofs.Common.{◌∙◌, ap}
-use Rattle.spk_routes.specs.Exports.{Exporting}
 use Rattle.spk_routes.proofs.ExportLemmas.{advertised_natively, not_advertised, not_passed, then_encoded}
 use Rattle.spk_routes.proofs.export.Exporter.export.Goals as goal
 
@@ -25,7 +23,7 @@ returns-clause-exports c =
 
 pub returns-then-runs_none-clause-exports : goal.returns-then-runs_none-clause-exports
 returns-then-runs_none-clause-exports c =
-    rw (← (c.self.invariant.2 ∙ ap (λ (e : Exporting). e.best) c.self.view_is))
+    rw (← c.self.view_is)
     (advertised_natively c.args.engine.now c.args.config.now.local c.args.config.now.local_pref c.args.peer.now
     c.args.wide c.args.source.now c.args.prefix _ c.write.result _
     c.if-runs_none.ensures (c.if-is_refused.ensures c.if-runs_none.ensures.outbound)
