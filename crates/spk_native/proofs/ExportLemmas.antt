@@ -1,10 +1,19 @@
 -- The section that a peer is sent, part by part of the route.
 use Rattle.std.proofs.Common.{◌≡◌, inl, inr, refl, sym, ap, ◌∙◌, ℕ, ◌+◌, ◌≤◌, true, false, List, [], ◌∷◌, ◌++◌, length}
-use Rattle.std.proofs.Common.{Some, arith, append_assoc}
-use Rattle.std.proofs.lemmas.Bool.{cases_Bool}
+use Rattle.std.proofs.Common.{◌<◌, Some, arith, append_assoc, nat_le, unwrap_or}
+use Rattle.std.specs.Prelude.{is_some}
+use Rattle.std.specs.List.{AllByRecursion}
+use Rattle.std.specs.List.Sorted.{IsStrictlySortedBy}
+use Rattle.std.specs.Map.{keys_of}
+use Rattle.std.specs.Ordering.{nat_cmp}
+use Rattle.std.specs.declared.cmp.Ordering.TheVariants.{Less}
+use Rattle.std.proofs.lemmas.Bool.{cases_Bool, le-leb, leb-false}
 use Rattle.std.proofs.lemmas.List.{length-append, append-nil}
 use Rattle.bgp_attr.specs.Routes.{Attribute, Route, attribute_at, canon, canonical}
+use Rattle.bgp_attr.specs.Rules.{is_known}
 use Rattle.xbgp_view.specs.Sections.{entry_of, below_code}
+use Rattle.xbgp_view.specs.Views.{code_from}
+use Rattle.xbgp_view.proofs.LowerLemmas.{lt-nat_cmp}
 use Rattle.xbgp_view.proofs.ViewsLemmas.{IsNext}
 use Rattle.spk_native.specs.Export.{is_passed_on, native_section}
 
@@ -63,3 +72,29 @@ native_section-sent r code flags value a there f v sent =
     let found : attribute_at r code ≡ Some (record { flags = flags; value = value }) =
     sym there ∙ ap (λ (b : Attribute). Some b) (same_attribute flags value a f v) in
     rw (found, sym sent) (append-nil (canonical (code, record { flags = flags; value = value })))
+
+-- an entry whose code has a rule of its own is sent, so it stands before what is sent of the others
+native_section-first : (e : ℕ × Attribute) (r : Route) → 0 < e.0 → is_some (code_from (e ∷ r) 8) ≡ false
+    → (is_some (code_from r 8) ≡ false → native_section r ≡ canon r) → native_section (e ∷ r) ≡ canon (e ∷ r)
+native_section-first e r above none rest = elim (cases_Bool (nat_le 8 e.0)) [
+  | inl past ↦ let found : true ≡ false = rw past at none in absurd (cc found)
+  | inr low ↦
+      let known : is_known e.0 ≡ true =
+      rw (le-leb 1 e.0 (omega (arith, above)), le-leb e.0 7 (omega (arith, leb-false 8 e.0 low))) refl in
+      rw known (ap (λ t. canonical e ++ t) (rest (rw low at none)))
+]
+
+-- all is sent of a route whose codes are above a number and have rules of their own
+native_section-above : (k : ℕ) (r : Route) → AllByRecursion (λ n. nat_cmp k n ≡ Less) (keys_of r)
+    → is_some (code_from r 8) ≡ false → native_section r ≡ canon r
+native_section-above k [] above none = refl
+native_section-above k (e ∷ r) above none =
+    native_section-first e r (omega (arith, lt-nat_cmp k e.0 above.0)) none (native_section-above k r above.1)
+
+-- all is sent of a route whose codes have rules of their own
+pub native_section-known : (r : Route) → IsStrictlySortedBy nat_cmp (keys_of r)
+    → 1 ≤ unwrap_or (code_from r 0) 1 → is_some (code_from r 8) ≡ false → native_section r ≡ canon r
+unfolding IsStrictlySortedBy
+native_section-known [] rising least none = refl
+native_section-known (e ∷ r) rising least none =
+    native_section-first e r (rw (le-leb 0 e.0 (omega arith)) at least) none (native_section-above e.0 r rising.0)

@@ -1,5 +1,6 @@
 // What a peer is sent of a route.
 ghost use Rattle.std.specs.Prelude.{◌≡◌, ◌+◌, ◌≤◌, ◌++◌, List, ℕ, IfSome, length, map, true, false};
+ghost use Rattle.std.specs.Bool.{OnTrue};
 ghost use Rattle.bgp_attr.specs.Paths.{path_octets, prepend};
 ghost use Rattle.bgp_attr.specs.Routes.{as_width, attribute_at, canon, with_attribute, IsRoute};
 ghost use Rattle.bgp_attr.specs.Rules.{is_known as is_of_row};
@@ -64,13 +65,33 @@ fn append_passed_on(route: &Overlay, code: u8, out: &mut Buf)
     }
 }
 
+// Whether each code of a route has a rule of its own.
+fn has_known_alone(route: &Overlay) -> bool
+    ensures shape { IsRoute route.now.route }
+    ensures whole { OnTrue result (section_of route.now.route ≡ canon route.now.route) }
+{
+    let least = route.code_from(0).unwrap_or(ORIGIN);
+    ORIGIN <= least && route.code_from(u16::from(AGGREGATOR) + 1).is_none()
+}
+
+/// Whether all codes of a route are from ORIGIN to AGGREGATOR: then a peer is sent its canonical section as it is.
+pub fn sends_all(route: &Overlay) -> bool
+    ensures { OnTrue result (section_of route.now.route ≡ canon route.now.route) }
+{
+    has_known_alone(route)
+}
+
 /// Replaces the content of `out` by the canonical section of what a peer is sent of the route.
 pub fn native_section(route: &Overlay, out: &mut Buf)
     requires { MAX_CANONICAL ≤ out.old.capacity }
     ensures { out.new ≡ record out.old { octets = section_of route.now.route } }
 {
-    let mut from = 0u16;
     out.clear();
+    if has_known_alone(route) {
+        let _ = route.section(out);
+        return;
+    }
+    let mut from = 0u16;
     'codes: while let Some(code) = route.code_from(from) {
         append_passed_on(route, code, out);
         from = u16::from(code) + 1;

@@ -5,7 +5,7 @@
 //! `specs/Filters` what is accepted.
 //!
 //! [`export_attrs`] makes the best route what it is for a peer, and [`native_section`] writes what the peer is sent of
-//! it. The speaker's own routes have AS numbers of four octets: [`widen_route`] makes a received route one of them, and
+//! it: all that the route has, if [`sends_all`]. The speaker's own routes have AS numbers of four octets: [`widen_route`] makes a received route one of them, and
 //! [`narrow_route`] makes a route what it becomes for a session with AS numbers of two octets. `specs/Export` says what
 //! is sent and `specs/Receipt` what a route becomes by the form of a session; `specs/Rebuilds` and `specs/Marks` have
 //! the words of private functions. Both conversions replace a route's attributes of four codes: four.rt does that,
@@ -29,6 +29,6 @@ mod values;
 mod wide;
 
 pub use decision::{MAX_CANDIDATES, Rank, rank_of, survivor};
-pub use export::{MAX_ADDED, export_attrs, native_section};
+pub use export::{MAX_ADDED, export_attrs, native_section, sends_all};
 pub use filters::{EXTERNAL, INTERNAL, inbound_native, outbound_native};
 pub use receipt::{narrow_route, widen_route};

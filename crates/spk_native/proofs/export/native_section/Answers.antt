@@ -1,12 +1,27 @@
-use Rattle.std.proofs.Common.{◌+◌, ◌++◌, ◌∙◌, ap, sym, length, arith}
+use Rattle.std.proofs.Common.{◌≤◌, ◌+◌, ◌++◌, ◌∙◌, ap, sym, length, arith}
 use Rattle.std.proofs.lemmas.List.{length-append}
 use Rattle.xb_values.specs.Buffers.{Buffer}
-use Rattle.bgp_attr.specs.Routes.{attribute_at}
+use Rattle.xb_values.proofs.BufferLemmas.{Appends-fits}
+use Rattle.bgp_attr.specs.Routes.{attribute_at, canon}
 use Rattle.xbgp_view.specs.Sections.{entry_of, below_code}
 use Rattle.xbgp_view.proofs.ViewsLemmas.{below_code-all, IsNext-code_from, length-canon-below_code, below_code-zero}
 use Rattle.spk_native.specs.Export.{native_section}
 use Rattle.spk_native.proofs.ExportLemmas.{native_section-next, length-native_section}
 use Rattle.spk_native.proofs.export.native_section.Goals as goal
+
+pub returns-then-has_known_alone : goal.returns-then-has_known_alone
+returns-then-has_known_alone c =
+    let r = c.args.route.now.route in
+    let fits : length c.clear.new.self.octets + length (canon r) ≤ c.clear.new.self.capacity = omega (
+      arith,
+      c.requires,
+      c.has_known_alone.ensures.shape.short,
+      ap (λ (b : Buffer). length b.octets) c.clear.ensures,
+      ap (λ (b : Buffer). b.capacity) c.clear.ensures,
+    ) in
+    Appends-fits c.section.result c.clear.new.self c.section.new.out (canon r) c.section.ensures fits
+    ∙ ap (λ (b : Buffer). record b { octets = b.octets ++ canon r }) c.clear.ensures
+    ∙ ap (λ t. record { octets = t; capacity = c.args.out.now.capacity }) (sym c.if-has_known_alone.ensures.whole)
 
 pub codes-init : goal.codes-init
 codes-init c = (
