@@ -13,6 +13,11 @@ use Rattle.xbgp_points.specs.Engines.{Kept}
 use Rattle.xbgp_points.specs.Points.{Called}
 use Rattle.spk_model.specs.Exporting.{Exported, accepted}
 
+-- what contracts see of an exporter: the best route that was loaded last, and the section that was written last
+pub record Exporting : Type 0 where
+  pub best : Route
+  pub section : List ℕ
+
 -- the octets are the section that is advertised, if a test says that the route is advertised
 abbrev pub Writes : Bool → List ℕ → Exported → Type 0
 Writes true octets x = (x.section ≡ Some octets) × (length octets ≤ MAX_SECTION)

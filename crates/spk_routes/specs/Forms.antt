@@ -10,6 +10,7 @@ use Rattle.xbgp_points.specs.Chains.{programs_at}
 use Rattle.xbgp_points.specs.Engines.{Kept}
 use Rattle.spk_model.specs.Exporting.{short_enough}
 use Rattle.spk_routes.specs.declared.forms.Form.{Form}
+use Rattle.spk_routes.specs.declared.forms.Forms.{Forms}
 use Rattle.spk_routes.specs.declared.forms.Terms.{Terms}
 
 -- a route as it is carried over to an external or to an internal peer (RFC 4271, sections 5 and 9.2)
@@ -26,11 +27,18 @@ formed t best = short_enough (wire (native_section (carried t best)) t.wide)
 abbrev pub IsWritten : Bool → List ℕ → Option (List ℕ) → Type 0
 IsWritten sent octets section = MatchBool sent (section ≡ Some octets) (section ≡ None)
 
--- a form is what it says that it was made of; it has room for any canonical section
-pub record IsForm (f : Form) : Type 0 where
-  pub from : f.from.capacity ≡ MAX_CANONICAL
-  pub section : f.section.capacity ≡ MAX_CANONICAL
-  pub meaning : IfSome f.terms (λ t. IsWritten f.fits f.section.octets (formed t (route_of f.from.octets)))
+-- a form that was made is what is sent of the best route; it has room for any canonical section
+pub record IsForm (f : Form) (best : Route) : Type 0 where
+  pub room : f.section.capacity ≡ MAX_CANONICAL
+  pub meaning : IfSome f.terms (λ t. IsWritten f.fits f.section.octets (formed t best))
+
+-- both forms are of the best route, of which the section is kept; each buffer has room for any canonical section
+pub record HaveForms (f : Forms) (best : Route) : Type 0 where
+  pub room : f.from.capacity ≡ MAX_CANONICAL
+  pub next : f.next.capacity ≡ MAX_CANONICAL
+  pub from : route_of f.from.octets ≡ best
+  pub external : IsForm f.external best
+  pub internal : IsForm f.internal best
 
 -- terms by which peers are sent the same of any route
 pub record AreAlike (a b : Terms) : Type 0 where
@@ -40,11 +48,10 @@ pub record AreAlike (a b : Terms) : Type 0 where
   pub asn : (a.local).asn ≡ (b.local).asn
   pub address : (a.local).address ≡ (b.local).address
 
--- a form was made of a section, by terms or by some that are like them
-pub record IsOf (f : Form) (section : List ℕ) (by : Terms) : Type 0 where
+-- a form was made by terms that are like these
+pub record IsBy (f : Form) (by : Terms) : Type 0 where
   pub made : IsSome f.terms
   pub alike : IfSome f.terms (λ t. AreAlike t by)
-  pub from : f.from.octets ≡ section
 
 -- no program runs at outbound and at encode
 pub record RunsNone (e : Kept) : Type 0 where

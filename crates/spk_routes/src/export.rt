@@ -10,57 +10,44 @@ ghost use Rattle.xbgp_points.specs.Chains.{programs_at};
 ghost use Rattle.xbgp_points.specs.Points.{outbound};
 ghost use Rattle.spk_model.specs.Choosing.{Trace};
 ghost use Rattle.spk_model.specs.Exporting.{accepted, encoded_for, exported};
-ghost use Rattle.spk_native.specs.Filters.{is_external};
 ghost use Rattle.spk_routes.specs.Exports.{given_or, Exports, IsRefused, Passes};
-ghost use Rattle.spk_routes.specs.Forms.{formed, IsWritten, RunsNone};
-ghost use Rattle.spk_routes.specs.Rooms.{HaveForms, HaveRoom};
+ghost use Rattle.spk_routes.specs.Forms.{RunsNone};
+ghost use Rattle.spk_routes.specs.Rooms.{HaveRoom};
 ghost use Rattle.spk_routes.specs.Sound.{IsSound};
 
-use crate::forms::{Form, terms_of};
-use crate::section::{see_shape, write_form};
+use crate::forms::Forms;
+use crate::section::{Sections, see_shape, write_form};
 use crate::sides::{local_of, local_pref_of};
-use bgp_attr::MAX_CANONICAL;
-use spk_native::{EXTERNAL, export_attrs, native_section, outbound_native};
+use spk_native::{export_attrs, native_section, outbound_native};
 use std::alloc::{AllocError, Global};
 use std::marker::Model;
 use xb_domain::Side;
-use xb_values::{Buf, Prefix};
+use xb_values::Prefix;
 use xbgp_config::Config;
 use xbgp_points::{Engine, Outcome};
-use xbgp_view::{Overlay, RouteView, write_section};
+use xbgp_view::{Overlay, RouteView};
 
-// The buffers of sections: what the native function writes, what programs give, and what is advertised.
-#[derive(Drop)]
-struct Sections {
-    native: Buf,
-    given: Buf,
-    sent: Buf,
-}
-
-// What external and internal peers were sent last while no program ran.
-#[derive(Drop)]
-struct Forms {
-    external: Form,
-    internal: Form,
-}
-
-/// Exports best routes to peers. All room is taken when it is made. Contracts see the section that was written last.
+/// Exports best routes to peers. All room is taken when it is made. Contracts see the best route that was loaded last,
+/// and the section that was written last.
 #[derive(Drop)]
 pub struct Exporter {
+    best: Overlay,
+    // What the best route becomes.
     route: Overlay,
     sections: Sections,
     forms: Forms,
 }
 
 impl Model for Exporter {
-    ghost use Rattle.std.specs.Prelude.{ℕ, List};
-    ghost use Rattle.spk_routes.specs.Rooms.{HaveRoom, HaveForms};
+    ghost use Rattle.spk_routes.specs.Exports.{Exporting};
+    ghost use Rattle.spk_routes.specs.Forms.{HaveForms};
+    ghost use Rattle.spk_routes.specs.Rooms.{HaveRoom};
 
-    ghost Value = { List ℕ };
+    ghost Value = { Exporting };
 
-    ghost view = { λ e. e.sections.sent.octets };
+    ghost view = { λ e. record { best = e.best.route; section = e.sections.sent.octets } };
 
-    ghost invariant = { λ e. HaveRoom e.sections × HaveForms e.forms };
+    ghost invariant = { λ e. HaveRoom e.sections × HaveForms e.forms e.best.route };
 }
 
 /// Whether a chain accepts: by its verdict, which is 1, or else as the native function does.
@@ -96,41 +83,6 @@ fn runs_none(engine: &Engine) -> bool
     ensures { OnTrue result (RunsNone engine.now) }
 {
     !engine.runs_at_outbound() && !engine.runs_at_encode()
-}
-
-// Writes what a peer is sent of a best route if no program runs, and returns whether it is short enough.
-fn write_natively<R: RouteView>(
-    route: &mut Overlay,
-    forms: &mut Forms,
-    config: &Config,
-    peer: &Side,
-    wide: bool,
-    best: &R,
-    out: &mut Sections,
-) -> bool
-    requires sound { IsSound (R.route best.now) }
-    requires room { HaveRoom out.old }
-    requires forms { HaveForms forms.old }
-    ensures written { IsWritten result out.new.sent.octets
-        (formed
-        (record {
-          external = is_external peer.now;
-          wide = wide;
-          local = config.now.local;
-          local_pref = config.now.local_pref;
-        })
-        (R.route best.now)) }
-    ensures room { HaveRoom out.new }
-    ensures forms { HaveForms forms.new }
-{
-    let terms = terms_of(config, peer, wide);
-    write_section(best, &mut out.given);
-    let section = out.given.as_slice();
-    if peer.kind == EXTERNAL {
-        forms.external.write(terms, section, peer, route, &mut out.native, &mut out.sent)
-    } else {
-        forms.internal.write(terms, section, peer, route, &mut out.native, &mut out.sent)
-    }
 }
 
 // Carries a best route over to a peer, and returns whether it passes outbound.
@@ -198,35 +150,36 @@ fn encode_route<R: RouteView>(
 }
 
 impl Exporter {
-    /// An exporter that wrote no section yet. The error is want of memory.
+    /// An exporter of the route without attributes, that wrote no section yet. The error is want of memory.
     pub fn make(alloc: Global) -> Result<Exporter, AllocError>
-        ensures { IfOk result (λ e. e ≡ []) }
+        ensures { IfOk result (λ e. e ≡ record { best = []; section = [] }) }
     {
         Ok(Exporter {
+            best: Overlay::make(alloc)?,
             route: Overlay::make(alloc)?,
-            sections: Sections {
-                native: Buf::make(alloc, MAX_CANONICAL)?,
-                given: Buf::make(alloc, MAX_CANONICAL)?,
-                sent: Buf::make(alloc, MAX_CANONICAL)?,
-            },
-            forms: Forms {
-                external: Form::make(alloc)?,
-                internal: Form::make(alloc)?,
-            },
+            sections: Sections::make(alloc)?,
+            forms: Forms::make(alloc)?,
         })
+    }
+
+    /// Loads the best route that is exported from now on.
+    pub fn load<R: RouteView>(&mut self, best: &R)
+        ensures { self.new ≡ record self.old { best = R.route best.now } }
+    {
+        self.forms.load(&mut self.best, best);
     }
 
     /// The section that was written last.
     pub fn section(&self) -> &[u8]
-        ensures { result.now ≡ self.now }
+        ensures { result.now ≡ self.now.section }
     {
         self.sections.sent.as_slice()
     }
 
-    /// Exports the best route of a prefix, which came from `source`, to a peer: it is carried over, and passes outbound
-    /// and encode. Whether the prefix is then advertised is returned; if so, the section in the form of the peer's
-    /// session, in which AS numbers have four octets (`wide`) or two, can be read until the next export.
-    pub fn export<R: RouteView>(
+    /// Exports the best route, as that of a prefix, which came from `source`, to a peer: it is carried over, and passes
+    /// outbound and encode. Whether the prefix is then advertised is returned; if so, the section in the form of the
+    /// peer's session, in which AS numbers have four octets (`wide`) or two, can be read until the next export.
+    pub fn export(
         &mut self,
         engine: &mut Engine,
         config: &Config,
@@ -234,30 +187,30 @@ impl Exporter {
         wide: bool,
         source: &Side,
         prefix: Prefix,
-        best: &R,
     ) -> bool
         requires local { engine.old.local ≡ config.now.local }
-        requires sound { IsSound (R.route best.now) }
-        ensures { Exports
+        requires sound { IsSound self.old.best }
+        ensures exports { Exports
             (exported engine.old.manifest config.now.local config.now.local_pref engine.old.engine peer.now wide
-            source.now prefix (R.route best.now))
-            engine.old engine.new result self.new }
+            source.now prefix self.old.best)
+            engine.old engine.new result self.new.section }
+        ensures best { self.new.best ≡ self.old.best }
     {
         if is_refused(engine, source, peer) {
             return false;
         }
         if runs_none(engine) {
-            return write_natively(
-                &mut self.route,
-                &mut self.forms,
-                config,
-                peer,
-                wide,
-                best,
-                &mut self.sections,
-            );
+            return self.forms.write(config, peer, wide, &mut self.best, &mut self.sections.sent);
         }
-        if !pass_outbound(&mut self.route, engine, config, peer, source, prefix, best) {
+        if !pass_outbound(
+            &mut self.route,
+            engine,
+            config,
+            peer,
+            source,
+            prefix,
+            &self.best,
+        ) {
             return false;
         }
         encode_route(
@@ -266,7 +219,7 @@ impl Exporter {
             peer,
             wide,
             source,
-            best,
+            &self.best,
             &mut self.sections,
         )
     }
