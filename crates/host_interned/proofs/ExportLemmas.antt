@@ -1,7 +1,8 @@
 -- What an export leaves.
 use Rattle.std.proofs.Common.{◌≡◌, ◌≤◌, ◌<◌, ◌-◌, refl, sym, ◌∙◌, ap, subst, ℕ, Bool, true, false, List, ◌++◌}
 use Rattle.std.proofs.Common.{length, arith, Option, Some, None}
-use Rattle.std.specs.Prelude.{slice_index_or, if◌then◌else◌}
+use Rattle.std.specs.Prelude.{slice_index_or, if◌then◌else◌, IfSome}
+use Rattle.std.specs.Option.{option_map}
 use Rattle.std.proofs.lemmas.List.{get_or_default}
 use Rattle.xb_words.specs.Table.{value_at, with_value, without}
 use Rattle.xb_words.proofs.TableLemmas.{value_at-some}
@@ -12,14 +13,17 @@ use Rattle.bgp_fsm.specs.Sessions.{Owned, start_session}
 use Rattle.xbgp_manifest.specs.Manifests.{Manifest}
 use Rattle.xbgp_points.specs.Engines.{Kept}
 use Rattle.xbgp_points.specs.Points.{Engine}
+use Rattle.spk_model.specs.declared.host.Setup.{Setup}
 use Rattle.spk_model.specs.Choosing.{Trace}
 use Rattle.spk_model.specs.Sources.{session_of, is_established, is_up, is_wide, side_of}
 use Rattle.spk_model.specs.Exporting.{Exported, exported}
 use Rattle.spk_model.specs.Routing.{Routed, Tables, Chosen, with_tables, at_tables}
 use Rattle.spk_model.specs.Routing.{set_adv, export, export_best, advertise}
+use Rattle.spk_routes.specs.Exports.{Exporting}
+use Rattle.spk_routes.specs.Sound.{IsSound}
 use Rattle.host_interned.specs.declared.routing.Core.{Core}
 use Rattle.host_interned.specs.Ribs.{RibView, Shows, tables_in, with_adv}
-use Rattle.host_interned.specs.Meaning.{Does, IsReady, setup_of, routing_of, routed}
+use Rattle.host_interned.specs.Meaning.{Does, IsLoaded, IsReady, setup_of, routing_of, routed}
 use Rattle.host_interned.proofs.ShownLemmas.{changed_core, ready_with_peer, routing_shown}
 
 -- a session by its index is that of the peer's number
@@ -64,7 +68,7 @@ adv_routing t p prefix None = refl
 adv_routing t p prefix (Some section) = refl
 
 -- the engine, the rib and the section change in an export
-abbrev pub exported_core : Core → Kept → RibView → List ℕ → Core
+abbrev pub exported_core : Core → Kept → RibView → Exporting → Core
 exported_core a e r x = changed_core a e r a.received a.route x
 
 -- what a peer is advertised at a prefix, with other routes shown
@@ -72,7 +76,7 @@ abbrev pub with_export : RibView → ℕ → Prefix → Option (List ℕ) → Li
 with_export r p prefix o = with_adv r p (adv_after (tables_in r p).adv prefix o)
 
 -- an export that ends in a change of what is advertised
-lands : (a : Core) (e : Kept) (r : RibView) (x : List ℕ) (sessions : List Owned) (prefix : Prefix) (p : ℕ)
+lands : (a : Core) (e : Kept) (r : RibView) (x : Exporting) (sessions : List Owned) (prefix : Prefix) (p : ℕ)
     (o : Option (List ℕ)) (after : Trace → Trace) → IsReady a → e.manifest ≡ a.engine.manifest
     → e.local ≡ a.engine.local → Shows a.rib.own a.rib.best (with_export a.rib p prefix o) r
     → ((trace : Trace) → export (setup_of a) sessions prefix (routed trace a) p
@@ -119,7 +123,7 @@ gives_for a to wide from prefix route =
     exported a.engine.manifest a.config.local a.config.local_pref a.engine.engine to wide from prefix route
 
 -- a best route is exported
-pub exports : (a : Core) (e : Kept) (r : RibView) (x : List ℕ) (sessions : List Owned) (prefix : Prefix) (p : ℕ)
+pub exports : (a : Core) (e : Kept) (r : RibView) (x : Exporting) (sessions : List Owned) (prefix : Prefix) (p : ℕ)
     (s w : Owned) (b : Chosen) (number : ℕ) (route : Route) (to from : Side) (wide : Bool)
     (o : Option (List ℕ))
     → IsReady a → length sessions ≡ length a.config.peers → 1 ≤ p → p ≤ length a.config.peers
@@ -159,3 +163,51 @@ exports a e r x sessions prefix p s w b number route to from wide o ready all le
       routing = record (routing_of a) { engine = y };
       trace = trace ++ g.trace;
     }) p prefix o) (sym engine))
+
+-- a core may be used after a best route was loaded
+pub ready_loaded : (a b : Core) (x : Exporting) → b ≡ record a { exporter = x } → IsReady a → IsReady b
+ready_loaded a b x is ready = subst IsReady (sym is) (record {
+  few = ready.few;
+  local = ready.local;
+  own = ready.own;
+  count = ready.count;
+  sources = ready.sources;
+})
+
+-- what was done before a best route was loaded is done after it
+pub does_before_load : (f : Setup → Routed → Routed) (a b c : Core) (x : Exporting) → c ≡ record b { exporter = x }
+    → Does f a b → Does f a c
+does_before_load f a b c x is d = subst (Does f a) (sym is) (record {
+  ready = ready_loaded b (record b { exporter = x }) x refl d.ready;
+  setup = d.setup;
+  routing = d.routing;
+})
+
+-- what is done after a best route was loaded is done from before it
+pub does_after_load : (f : Setup → Routed → Routed) (a b c : Core) (x : Exporting) → b ≡ record a { exporter = x }
+    → Does f b c → Does f a c
+does_after_load f a b c x is d =
+    let from : Does f (record a { exporter = x }) c = subst (λ (y : Core). Does f y c) is d in
+    record { ready = from.ready; setup = from.setup; routing = from.routing }
+
+-- a best route that was loaded is there while best routes and the loaded one stay
+pub loaded_still : (a b : Core) (prefix : Prefix) (source : Option ℕ) → b.rib.best ≡ a.rib.best
+    → (b.exporter).best ≡ (a.exporter).best → IsLoaded a prefix source → IsLoaded b prefix source
+loaded_still a b prefix source best route loaded = record {
+  best =
+      ap (λ (es : List (Prefix × Chosen)). value_at prefix_cmp es prefix) best ∙ loaded.best
+      ∙ ap (λ (r : Route). option_map (λ n. record { source = n; route = r }) source) (sym route);
+  sound = subst (λ (r : Route). IfSome source (λ n. IsSound r)) (sym route) loaded.sound;
+}
+
+-- the best route of a prefix that was loaded
+abbrev pub loaded_best : Core → ℕ → Chosen
+loaded_best a n = record { source = n; route = (a.exporter).best }
+
+pub loaded_found : (a : Core) (prefix : Prefix) (source : Option ℕ) (n : ℕ) → IsLoaded a prefix source
+    → source ≡ Some n → value_at prefix_cmp a.rib.best prefix ≡ Some (loaded_best a n)
+loaded_found a prefix source n loaded is = loaded.best ∙ ap (option_map (loaded_best a)) is
+
+pub loaded_missing : (a : Core) (prefix : Prefix) (source : Option ℕ) → IsLoaded a prefix source → source ≡ None
+    → value_at prefix_cmp a.rib.best prefix ≡ None
+loaded_missing a prefix source loaded is = loaded.best ∙ ap (option_map (loaded_best a)) is

@@ -23,12 +23,12 @@ routing_shown engine own best tables r shows =
     ∙ ap (λ (t : List Tables). routing_with r.best engine t) (sym shows.tables_are)
 
 -- the engine, the rib, the received routes and the section change
-abbrev pub changed_core : Core → Kept → RibView → Edited → Edited → List ℕ → Core
+abbrev pub changed_core : Core → Kept → RibView → Edited → Edited → Exporting → Core
 changed_core a e r received route x =
     record a { engine = e; rib = r; received = received; route = route; exporter = x }
 
 -- such a core may be used again
-pub ready_shown : (a : Core) (e : Kept) (r : RibView) (received route : Edited) (x : List ℕ)
+pub ready_shown : (a : Core) (e : Kept) (r : RibView) (received route : Edited) (x : Exporting)
     (best : List (Prefix × Chosen)) (tables : List Tables) → IsReady a → e.local ≡ a.engine.local
     → Shows a.rib.own best tables r → length tables ≡ length a.rib.tables
     → AllByRecursion (λ b. b.1.source ≤ length a.config.peers) best
@@ -45,7 +45,7 @@ ready_shown a e r received route x best tables ready local shows count sources =
 pub count_with_peer : (r : RibView) (p : ℕ) (t : Tables) → length (with_peer r p t) ≡ length r.tables
 count_with_peer r p t = length-set r.tables (p - 1) t
 
-pub ready_with_peer : (a : Core) (e : Kept) (r : RibView) (received route : Edited) (x : List ℕ) (p : ℕ) (t : Tables)
+pub ready_with_peer : (a : Core) (e : Kept) (r : RibView) (received route : Edited) (x : Exporting) (p : ℕ) (t : Tables)
     → IsReady a → e.local ≡ a.engine.local → Shows a.rib.own a.rib.best (with_peer a.rib p t) r
     → IsReady (changed_core a e r received route x)
 ready_with_peer a e r received route x p t ready local shows =
@@ -53,7 +53,7 @@ ready_with_peer a e r received route x p t ready local shows =
     ready.sources
 
 -- the rib shows the same
-pub ready_same : (a : Core) (e : Kept) (r : RibView) (received route : Edited) (x : List ℕ) → IsReady a
+pub ready_same : (a : Core) (e : Kept) (r : RibView) (received route : Edited) (x : Exporting) → IsReady a
     → e.local ≡ a.engine.local → Shows a.rib.own a.rib.best a.rib.tables r
     → IsReady (changed_core a e r received route x)
 ready_same a e r received route x ready local shows =

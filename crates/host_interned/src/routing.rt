@@ -1,10 +1,10 @@
 // The routes, without what keeps them sound: deciding, exporting and settling prefixes.
-ghost use Rattle.std.specs.Prelude.{◌≡◌, ◌≤◌, ◌+◌, [], length, fold, IfOk};
+ghost use Rattle.std.specs.Prelude.{◌≡◌, ◌≤◌, ◌+◌, [], length, fold, IfOk, OnOk};
 ghost use Rattle.std.specs.Map.{keys_of};
 ghost use Rattle.bgp_fsm.specs.Sessions.{Owned};
 ghost use Rattle.spk_model.specs.Sources.{peer_numbers};
 ghost use Rattle.spk_model.specs.Routing.{decide, export, export_all, settle};
-ghost use Rattle.host_interned.specs.Meaning.{Goes, IsReady};
+ghost use Rattle.host_interned.specs.Meaning.{Goes, IsLoaded, IsReady};
 
 use crate::decision::winner;
 use crate::rib::Rib;
@@ -56,6 +56,58 @@ impl Core {
         }
     }
 
+    // Loads the best route of a prefix, to be exported, and returns its source. None if it has none.
+    fn load_best(&mut self, prefix: Prefix) -> Option<u32>
+        requires { IsReady self.old }
+        ensures loaded { IsLoaded self.new prefix result }
+        ensures unchanged { self.new ≡ record self.old { exporter = self.new.exporter } }
+    {
+        let (source, best) = self.rib.best(prefix)?;
+        self.exporter.load(best);
+        Some(source)
+    }
+
+    // Exports a prefix to a peer, if its session is Established. The best route was loaded, which came from `source`.
+    fn export_loaded(
+        &mut self,
+        sessions: &[Session],
+        prefix: Prefix,
+        source: Option<u32>,
+        peer: u32,
+    ) -> Result<(), AllocError>
+        requires ready { IsReady self.old }
+        requires all { length sessions.now ≡ length self.old.config.peers }
+        requires least { 1 ≤ peer }
+        requires most { peer ≤ length self.old.config.peers }
+        requires loaded { IsLoaded self.old prefix source }
+        ensures goes { Goes result (λ setup t. export setup sessions.now prefix t peer) self.old self.new }
+        ensures loaded { OnOk result (IsLoaded self.new prefix source) }
+    {
+        let i = peer as usize - 1;
+        if !is_up(&sessions[i]) {
+            return Ok(());
+        }
+        let Some(number) = source else {
+            self.rib.retract(peer, prefix);
+            return Ok(());
+        };
+        let to = side_of(&self.config, sessions, peer);
+        let from = side_of(&self.config, sessions, number);
+        if self.exporter.export(
+            &mut self.engine,
+            &self.config,
+            &to,
+            sessions[i].wide(),
+            &from,
+            prefix,
+        ) {
+            self.rib.advertise(peer, prefix, self.exporter.section())
+        } else {
+            self.rib.retract(peer, prefix);
+            Ok(())
+        }
+    }
+
     /// Exports a prefix to a peer, if its session is Established.
     pub(crate) fn export(
         &mut self,
@@ -69,30 +121,8 @@ impl Core {
         requires most { peer ≤ length self.old.config.peers }
         ensures { Goes result (λ setup t. export setup sessions.now prefix t peer) self.old self.new }
     {
-        let i = peer as usize - 1;
-        if !is_up(&sessions[i]) {
-            return Ok(());
-        }
-        let Some((source, best)) = self.rib.best(prefix) else {
-            self.rib.retract(peer, prefix);
-            return Ok(());
-        };
-        let to = side_of(&self.config, sessions, peer);
-        let from = side_of(&self.config, sessions, source);
-        if self.exporter.export(
-            &mut self.engine,
-            &self.config,
-            &to,
-            sessions[i].wide(),
-            &from,
-            prefix,
-            best,
-        ) {
-            self.rib.advertise(peer, prefix, self.exporter.section())
-        } else {
-            self.rib.retract(peer, prefix);
-            Ok(())
-        }
+        let source = self.load_best(prefix);
+        self.export_loaded(sessions, prefix, source, peer)
     }
 
     /// Decides a prefix, and exports it to each peer.
@@ -107,8 +137,9 @@ impl Core {
         ensures { Goes result (λ setup t. settle setup sessions.now t prefix) self.old self.new }
     {
         self.decide(alloc, sessions, prefix)?;
+        let source = self.load_best(prefix);
         'peers: for i in 0..sessions.len() {
-            self.export(sessions, prefix, i as u32 + 1)?;
+            self.export_loaded(sessions, prefix, source, i as u32 + 1)?;
         }
         Ok(())
     }

@@ -1,7 +1,8 @@
 -- What an export leaves.
 use Rattle.std.proofs.Common.{◌≡◌, ◌≤◌, ◌<◌, ◌-◌, refl, sym, ◌∙◌, ap, subst, ℕ, Bool, true, false, List, ◌++◌}
 use Rattle.std.proofs.Common.{length, arith, Vec, Option, Some, None}
-use Rattle.std.specs.Prelude.{slice_index_or, if◌then◌else◌}
+use Rattle.std.specs.Prelude.{slice_index_or, if◌then◌else◌, IfSome}
+use Rattle.std.specs.Option.{option_map}
 use Rattle.std.specs.List.{slice_set}
 use Rattle.std.specs.declared.alloc.Global.{Global}
 use Rattle.std.proofs.lemmas.List.{get_or_default}
@@ -15,13 +16,16 @@ use Rattle.bgp_fsm.specs.Sessions.{Owned, start_session}
 use Rattle.xbgp_manifest.specs.Manifests.{Manifest}
 use Rattle.xbgp_points.specs.Engines.{Kept}
 use Rattle.xbgp_points.specs.Points.{Engine}
+use Rattle.spk_model.specs.declared.host.Setup.{Setup}
 use Rattle.spk_model.specs.Choosing.{Trace}
 use Rattle.spk_model.specs.Sources.{session_of, is_established, is_up, is_wide, side_of}
 use Rattle.spk_model.specs.Exporting.{Exported, exported}
 use Rattle.spk_model.specs.Routing.{Routed, Tables, Chosen, no_tables, with_tables, at_tables}
 use Rattle.spk_model.specs.Routing.{set_adv, export, export_best, advertise}
+use Rattle.spk_routes.specs.Exports.{Exporting}
+use Rattle.spk_routes.specs.Sound.{IsSound}
 use Rattle.host_listed.specs.declared.routing.Core.{Core}
-use Rattle.host_listed.specs.Meaning.{Does, IsReady, setup_of, routing_of, routed}
+use Rattle.host_listed.specs.Meaning.{Does, IsLoaded, IsReady, setup_of, routing_of, routed}
 
 -- a session by its index is that of the peer's number
 pub session_at : (sessions : List Owned) (p : ℕ) (s : Owned) → 1 ≤ p → p ≤ length sessions
@@ -72,11 +76,11 @@ adv_routing t p prefix None = refl
 adv_routing t p prefix (Some section) = refl
 
 -- the engine, the tables and the section change in an export
-abbrev pub exported_core : Core → Kept → Vec Tables Global → List ℕ → Core
+abbrev pub exported_core : Core → Kept → Vec Tables Global → Exporting → Core
 exported_core a e ts x = record a { engine = e; peers = ts; exporter = x }
 
 -- such a core may be used again
-pub ready_exported : (a : Core) (e : Kept) (ts : Vec Tables Global) (x : List ℕ) (p : ℕ) (t : Tables) → IsReady a
+pub ready_exported : (a : Core) (e : Kept) (ts : Vec Tables Global) (x : Exporting) (p : ℕ) (t : Tables) → IsReady a
     → e.local ≡ a.engine.local → ts.items ≡ slice_set a.peers.items (p - 1) t → IsReady (exported_core a e ts x)
 ready_exported a e ts x p t ready local items = record {
   few = ready.few;
@@ -87,7 +91,7 @@ ready_exported a e ts x p t ready local items = record {
 }
 
 -- an export that ends in a change of what is advertised
-lands : (a : Core) (e : Kept) (ts : Vec Tables Global) (x : List ℕ) (sessions : List Owned) (prefix : Prefix) (p : ℕ)
+lands : (a : Core) (e : Kept) (ts : Vec Tables Global) (x : Exporting) (sessions : List Owned) (prefix : Prefix) (p : ℕ)
     (tables : Tables) (o : Option (List ℕ)) (after : Trace → Trace)
     → IsReady a → 1 ≤ p → p ≤ length a.config.peers → tables ≡ slice_index_or a.peers.items (p - 1) tables
     → e.manifest ≡ a.engine.manifest → e.local ≡ a.engine.local
@@ -153,7 +157,7 @@ gives_for a to wide from prefix route =
     exported a.engine.manifest a.config.local a.config.local_pref a.engine.engine to wide from prefix route
 
 -- a best route is exported
-pub exports : (a : Core) (e : Kept) (ts : Vec Tables Global) (x : List ℕ) (sessions : List Owned) (prefix : Prefix) (p : ℕ)
+pub exports : (a : Core) (e : Kept) (ts : Vec Tables Global) (x : Exporting) (sessions : List Owned) (prefix : Prefix) (p : ℕ)
     (tables : Tables) (s w : Owned) (b : Chosen) (number : ℕ) (route : Route) (to from : Side) (wide : Bool)
     (o : Option (List ℕ))
     → IsReady a → length sessions ≡ length a.config.peers → 1 ≤ p → p ≤ length a.config.peers
@@ -192,3 +196,39 @@ exports a e ts x sessions prefix p tables s w b number route to from wide o read
       routing = record (routing_of a) { engine = y };
       trace = trace ++ g.trace;
     }) p prefix o) (sym engine))
+
+-- a core may be used after a best route was loaded
+pub ready_loaded : (a b : Core) (x : Exporting) → b ≡ record a { exporter = x } → IsReady a → IsReady b
+ready_loaded a b x is ready = subst IsReady (sym is) (record {
+  few = ready.few;
+  local = ready.local;
+  own = ready.own;
+  count = ready.count;
+  sources = ready.sources;
+})
+
+-- what was done before a best route was loaded is done after it
+pub does_before_load : (f : Setup → Routed → Routed) (a b c : Core) (x : Exporting) → c ≡ record b { exporter = x }
+    → Does f a b → Does f a c
+does_before_load f a b c x is d = subst (Does f a) (sym is) (record {
+  ready = ready_loaded b (record b { exporter = x }) x refl d.ready;
+  setup = d.setup;
+  routing = d.routing;
+})
+
+-- what is done after a best route was loaded is done from before it
+pub does_after_load : (f : Setup → Routed → Routed) (a b c : Core) (x : Exporting) → b ≡ record a { exporter = x }
+    → Does f b c → Does f a c
+does_after_load f a b c x is d =
+    let from : Does f (record a { exporter = x }) c = subst (λ (y : Core). Does f y c) is d in
+    record { ready = from.ready; setup = from.setup; routing = from.routing }
+
+-- a best route that was loaded is there while best routes and the loaded one stay
+pub loaded_still : (a b : Core) (prefix : Prefix) (source : Option ℕ) → b.best.entries ≡ a.best.entries
+    → (b.exporter).best ≡ (a.exporter).best → IsLoaded a prefix source → IsLoaded b prefix source
+loaded_still a b prefix source best route loaded = record {
+  best =
+      ap (λ (es : List (Prefix × Chosen)). value_at prefix_cmp es prefix) best ∙ loaded.best
+      ∙ ap (λ (r : Route). option_map (λ n. record { source = n; route = r }) source) (sym route);
+  sound = subst (λ (r : Route). IfSome source (λ n. IsSound r)) (sym route) loaded.sound;
+}

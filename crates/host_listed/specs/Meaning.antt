@@ -1,12 +1,16 @@
 -- The routes that a core keeps, and what it is for a function of it to follow a definition (this project's own).
-use Rattle.std.specs.Prelude.{◌≡◌, ◌≤◌, length, Result, Ok, Err}
+use Rattle.std.specs.Prelude.{◌≡◌, ◌≤◌, ℕ, length, Option, Result, Ok, Err, IfSome}
 use Rattle.std.specs.declared.alloc.AllocError.{AllocError}
 use Rattle.std.specs.List.{AllByRecursion}
+use Rattle.std.specs.Option.{option_map}
+use Rattle.xb_words.specs.Table.{value_at}
+use Rattle.xb_values.specs.Prefixes.{Prefix, prefix_cmp}
 use Rattle.xbgp_config.specs.declared.limits.TheConstants.{MAX_PEERS}
 use Rattle.spk_model.specs.declared.host.Setup.{Setup}
 use Rattle.spk_model.specs.Choosing.{Trace}
 use Rattle.spk_model.specs.Sources.{local_route}
 use Rattle.spk_model.specs.Routing.{Routing, Routed}
+use Rattle.spk_routes.specs.Sound.{IsSound}
 use Rattle.host_listed.specs.declared.routing.Core.{Core}
 
 -- the setup that a core was made of
@@ -28,6 +32,13 @@ pub record IsReady (c : Core) : Type 0 where
   pub own : c.own ≡ record { source = 0; route = local_route c.config }
   pub count : length c.peers.items ≡ length c.config.peers
   pub sources : AllByRecursion (λ e. e.1.source ≤ length c.config.peers) c.best.entries
+
+-- the best route of a prefix, if it has one, was loaded to be exported; it came from this source
+pub record IsLoaded (c : Core) (prefix : Prefix) (source : Option ℕ) : Type 0 where
+  pub best :
+      value_at prefix_cmp c.best.entries prefix
+      ≡ option_map (λ n. record { source = n; route = (c.exporter).best }) source
+  pub sound : IfSome source (λ n. IsSound (c.exporter).best)
 
 -- the core went on as a definition says, whatever chains ran before
 pub record Does (step : Setup → Routed → Routed) (old new : Core) : Type 0 where
