@@ -232,3 +232,15 @@ loaded_still a b prefix source best route loaded = record {
       ∙ ap (λ (r : Route). option_map (λ n. record { source = n; route = r }) source) (sym route);
   sound = subst (λ (r : Route). IfSome source (λ n. IsSound r)) (sym route) loaded.sound;
 }
+
+-- the best route of a prefix that was loaded
+abbrev pub loaded_best : Core → ℕ → Chosen
+loaded_best a n = record { source = n; route = (a.exporter).best }
+
+pub loaded_found : (a : Core) (prefix : Prefix) (source : Option ℕ) (n : ℕ) → IsLoaded a prefix source
+    → source ≡ Some n → value_at prefix_cmp a.best.entries prefix ≡ Some (loaded_best a n)
+loaded_found a prefix source n loaded is = loaded.best ∙ ap (option_map (loaded_best a)) is
+
+pub loaded_missing : (a : Core) (prefix : Prefix) (source : Option ℕ) → IsLoaded a prefix source → source ≡ None
+    → value_at prefix_cmp a.best.entries prefix ≡ None
+loaded_missing a prefix source loaded is = loaded.best ∙ ap (option_map (loaded_best a)) is

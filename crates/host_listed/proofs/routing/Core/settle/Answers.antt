@@ -8,8 +8,9 @@ use Rattle.host_listed.proofs.routing.Core.settle.Goals as goal
 pub peers-preserved : goal.peers-preserved
 peers-preserved c = record {
   done = does_more (λ setup t. decide setup c.args.sessions.now t c.args.prefix)
-      (λ setup. export setup c.args.sessions.now c.args.prefix) c.peers.i _ c.args.self.now c.peers.self c.export.new.self refl
-      c.peers.invariant.done c.in_ok-export.ensures;
+      (λ setup. export setup c.args.sessions.now c.args.prefix) c.peers.i _ c.args.self.now c.peers.self
+      c.export_loaded.new.self refl c.peers.invariant.done c.in_ok-export_loaded.ensures.goes;
+  loaded = c.in_ok-export_loaded.ensures.loaded;
 }
 
 pub returns : goal.returns
