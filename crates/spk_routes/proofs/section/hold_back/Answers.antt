@@ -1,6 +1,5 @@
 use Rattle.std.proofs.Common.{◌≡◌, ◌∙◌, sym, ap}
 use Rattle.bgp_attr.specs.Routes.{Route, route_of}
-use Rattle.xbgp_view.specs.Views.{Edited}
 use Rattle.xbgp_view.proofs.ReadingLemmas.{route_of-canon}
 use Rattle.spk_native.specs.Export.{native_section}
 use Rattle.spk_routes.proofs.section.hold_back.Goals as goal
