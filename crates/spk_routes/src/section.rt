@@ -9,7 +9,7 @@ ghost use Rattle.spk_routes.specs.Forms.{IsWritten};
 ghost use Rattle.spk_routes.specs.Rooms.{HaveRoom};
 
 use bgp_attr::MAX_CANONICAL;
-use spk_native::{narrow_route, native_section};
+use spk_native::{narrow_route, native_section, sends_all};
 use std::alloc::{AllocError, Global};
 use xb_values::Buf;
 use xb_wire::numbers::MAX_SECTION;
@@ -94,6 +94,10 @@ fn hold_back(route: &mut Overlay, spare: &mut Buf)
     ensures route { route.new ≡ record route.old { route = route_of (section_of route.old.route) } }
     ensures capacity { spare.new.capacity ≡ MAX_CANONICAL }
 {
+    see_shape(route);
+    if sends_all(route) {
+        return;
+    }
     native_section(route, spare);
     route.read(spare.as_slice());
 }
