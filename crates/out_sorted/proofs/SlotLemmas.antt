@@ -11,10 +11,7 @@ use Rattle.std.specs.Map.{set_value, keys_of}
 use Rattle.std.specs.Map.Iter.{deref_pair}
 use Rattle.std.specs.Option.{option_map, option_and_then}
 use Rattle.std.specs.Ordering.{is_lt, is_le, is_eq, is_gt}
-use Rattle.std.specs.Result.{OnErr}
 use Rattle.std.specs.Set.{remove_key}
-use Rattle.std.specs.declared.result.Result.{Result}
-use Rattle.std.specs.declared.result.Result.TheVariants.{Ok, Err}
 use Rattle.std.specs.declared.cmp.Ordering.{Ordering}
 use Rattle.std.specs.declared.cmp.Ordering.TheVariants.{Less, Equal, Greater}
 use Rattle.std.specs.declared.ops.Bound.TheVariants.{Included, Excluded, Unbounded}
@@ -211,11 +208,6 @@ pub set_value-same : {X : Type 0} (es : List (Prefix × X)) (p : Prefix) (x : X)
     → value_at prefix_cmp es p ≡ Some x → set_value (is_at (prefix_cmp p)) es x ≡ es
 set_value-same es p x rising there =
     set_value-with_value es p x x rising there ∙ with_value-same es p x rising there
-
--- what holds in any case holds of an error
-pub on_err : {T E P : Type 0} (r : Result T E) → P → OnErr r P
-on_err (Ok x) holds = tt
-on_err (Err x) holds = holds
 
 -- a slot that was told stays when it is advertised no longer
 pub told_alone-told : (told : Option (List ℕ)) → is_some told ≡ true

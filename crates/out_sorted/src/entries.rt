@@ -23,6 +23,7 @@ use crate::waiting::{Change, Waiting, Waits};
 use bgp_write::Packer;
 use std::alloc::{AllocError, Global};
 use std::collections::BTreeMap;
+use std::collections::btree_map::Entry as Place;
 use std::ops::Bound;
 use xb_values::{Buf, Prefix};
 use xb_wire::numbers::MAX_MESSAGE;
@@ -43,17 +44,16 @@ pub(crate) fn put(
         IfOk result (λ c. c ≡ change_of old (Some (advertised old section.now))) }
     ensures err { OnErr result (entries.new.entries ≡ entries.old.entries) }
 {
-    let Some(entry) = entries.get_mut(&prefix) else {
-        let _ = entries.insert(prefix, Entry::fresh(alloc, section)?)?;
-        return Ok(Change {
-            before: Waits::none(),
-            after: Waits::to_announce(),
-        });
-    };
-    let before = entry.waits();
-    entry.set(alloc, section)?;
-    let after = entry.waits();
-    Ok(Change { before, after })
+    match entries.entry(prefix)? {
+        Place::Vacant(vacant) => {
+            vacant.insert(Entry::fresh(alloc, section)?);
+            Ok(Change {
+                before: Waits::none(),
+                after: Waits::to_announce(),
+            })
+        }
+        Place::Occupied(occupied) => occupied.into_mut().set(alloc, section),
+    }
 }
 
 /// Advertises a prefix no longer. How it waits before and after that is returned.

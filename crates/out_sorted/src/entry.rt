@@ -2,9 +2,9 @@
 ghost use Rattle.std.specs.Prelude.{◌≡◌, IsTrue, is_some, Some, None, false, IfOk, OnOk, OnErr};
 ghost use Rattle.std.specs.Option.{option_map};
 ghost use Rattle.bgp_write.specs.Pending.{same_section};
-ghost use Rattle.out_sorted.specs.Slots.{is_fresh, is_gone, waits_of};
+ghost use Rattle.out_sorted.specs.Slots.{change_of, is_fresh, is_gone, waits_of};
 
-use crate::waiting::Waits;
+use crate::waiting::{Change, Waits};
 use std::alloc::{AllocError, Global};
 use std::marker::Model;
 use std::mem;
@@ -147,9 +147,9 @@ impl Entry {
         }
     }
 
-    /// Advertises a section. It is copied only if it is neither advertised nor told already. The error is want of
-    /// memory; then nothing changed.
-    pub(crate) fn set(&mut self, alloc: Global, section: &[u8]) -> Result<(), AllocError>
+    // Advertises a section. It is copied only if it is neither advertised nor told already. The error is want of memory;
+    // then nothing changed.
+    fn advertise(&mut self, alloc: Global, section: &[u8]) -> Result<(), AllocError>
         ensures ok { OnOk result (self.new ≡ record self.old { adv = Some section.now }) }
         ensures err { OnErr result (self.new ≡ self.old) }
     {
@@ -162,6 +162,19 @@ impl Entry {
             self.change(copy_of(alloc, section)?);
         }
         Ok(())
+    }
+
+    /// Advertises a section. How the prefix waits before and after that is returned. The error is want of memory; then
+    /// nothing changed.
+    pub(crate) fn set(&mut self, alloc: Global, section: &[u8]) -> Result<Change, AllocError>
+        ensures ok { OnOk result (self.new ≡ record self.old { adv = Some section.now }) }
+        ensures change { IfOk result (λ c. c ≡ change_of (Some self.old) (Some self.new)) }
+        ensures err { OnErr result (self.new ≡ self.old) }
+    {
+        let before = self.waits();
+        self.advertise(alloc, section)?;
+        let after = self.waits();
+        Ok(Change { before, after })
     }
 
     /// Advertises nothing.
