@@ -8,6 +8,7 @@ use Rattle.xbgp_view.specs.Views.{Edited}
 use Rattle.xbgp_points.specs.Engines.{Kept}
 use Rattle.xbgp_points.specs.Points.{Engine}
 use Rattle.spk_model.specs.Routing.{Chosen, Routing, Tables}
+use Rattle.spk_routes.specs.Exports.{Exporting}
 use Rattle.host_interned.specs.declared.routing.Core.{Core}
 use Rattle.host_interned.specs.Ribs.{RibView, Shows, with_peer}
 use Rattle.host_interned.specs.Meaning.{IsReady}

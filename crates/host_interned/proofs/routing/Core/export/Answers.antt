@@ -19,8 +19,7 @@ export_loaded-requires c =
 
 pub returns : goal.returns
 returns c =
-    let step = λ setup t. export setup c.args.sessions.now c.args.prefix t c.args.peer in
-    goes_weaker c.export_loaded.result step step c.args.self.now c.load_best-source.new.self c.export_loaded.new.self
-    (does_after_load step c.args.self.now c.load_best-source.new.self c.export_loaded.new.self _
-    c.load_best-source.ensures.unchanged)
+    goes_weaker c.export_loaded.result _ _ c.args.self.now c.load_best-source.new.self c.export_loaded.new.self
+    (does_after_load (λ setup t. export setup c.args.sessions.now c.args.prefix t c.args.peer) c.args.self.now
+    c.load_best-source.new.self c.export_loaded.new.self _ c.load_best-source.ensures.unchanged)
     c.export_loaded.ensures.goes
