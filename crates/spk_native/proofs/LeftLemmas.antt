@@ -1,11 +1,11 @@
 -- Ranks that are marked as left.
-use Rattle.std.proofs.Common.{◌≡◌, refl, sym, ap, ◌∙◌, ℕ, zero, suc, ◌+◌, ◌<◌, ◌≤◌, Bool, true, false, List, [], ◌∷◌}
-use Rattle.std.proofs.Common.{length, get_or, drop, replicate, filter, ◌&&◌, ◌||◌, ◌==◌, if◌then◌else◌, one-add, arith}
+use Rattle.std.proofs.Common.{◌≡◌, refl, sym, ap, ◌∙◌, inl, inr, ℕ, zero, suc, ◌+◌, ◌<◌, ◌≤◌, Bool, true, false, List, []}
+use Rattle.std.proofs.Common.{◌∷◌, length, get_or, drop, replicate, filter, ◌&&◌, ◌||◌, ◌==◌, if◌then◌else◌, cond, one-add, arith}
 use Rattle.std.specs.List.{list_any, position_or_len}
 use Rattle.spk_native.specs.declared.decision.Rank.{Rank}
 use Rattle.spk_native.specs.Decision.{left_of}
 use Rattle.spk_native.specs.Laws.{AreApart}
-use Rattle.std.proofs.lemmas.Bool.{eq-eqb, ne_eqb}
+use Rattle.std.proofs.lemmas.Bool.{cases_Bool, eq-eqb, ne_eqb}
 
 -- what proofs say is past the end of a list of ranks
 abbrev pub no_rank : Rank
@@ -51,16 +51,41 @@ any-head : (test : Rank → Bool) (r : Rank) (b : Bool) (ranks : List Rank)
 any-head test r true ranks = refl
 any-head test r false ranks = refl
 
+-- those that are left from one index on are the rank there, if it is marked, and those after it
+left_of-drop : (ranks : List Rank) (left : List Bool) (i : ℕ) (d : Rank) → i < length ranks → i < length left
+    → left_of (drop i ranks) (drop i left)
+    ≡ (if get_or left i false then get_or ranks i d ∷ left_of (drop (suc i) ranks) (drop (suc i) left)
+    else left_of (drop (suc i) ranks) (drop (suc i) left))
+left_of-drop [] left i d h k = absurd (omega arith)
+left_of-drop (r ∷ ranks) [] i d h k = absurd (omega arith)
+left_of-drop (r ∷ ranks) (b ∷ left) zero d h k = refl
+left_of-drop (r ∷ ranks) (b ∷ left) (suc i) d h k = left_of-drop ranks left i d (omega arith) (omega arith)
+
 -- a test on those that are left, from one index on
 pub list_any-left_of : (test : Rank → Bool) (ranks : List Rank) (left : List Bool) (i : ℕ) (d : Rank)
     → i < length ranks → i < length left → list_any test (left_of (drop i ranks) (drop i left))
     ≡ ((get_or left i false && test (get_or ranks i d))
     || list_any test (left_of (drop (suc i) ranks) (drop (suc i) left)))
-list_any-left_of test [] left i d h k = absurd (omega arith)
-list_any-left_of test (r ∷ ranks) [] i d h k = absurd (omega arith)
-list_any-left_of test (r ∷ ranks) (b ∷ left) zero d h k = any-head test r b (left_of ranks left)
-list_any-left_of test (r ∷ ranks) (b ∷ left) (suc i) d h k =
-    list_any-left_of test ranks left i d (omega arith) (omega arith)
+list_any-left_of test ranks left i d h k =
+    ap (list_any test) (left_of-drop ranks left i d h k)
+    ∙ any-head test (get_or ranks i d) (get_or left i false) (left_of (drop (suc i) ranks) (drop (suc i) left))
+
+length-filter-head : (p : Rank → Bool) (r : Rank) (b : Bool) (ranks : List Rank)
+    → length (filter p (if b then r ∷ ranks else ranks)) ≡ cond (b && p r) 1 0 + length (filter p ranks)
+length-filter-head p r true ranks = elim (cases_Bool (p r)) [
+  | inl holds ↦ rw holds (omega arith)
+  | inr fails ↦ rw fails (omega arith)
+]
+length-filter-head p r false ranks = omega arith
+
+-- how many of those that are left pass a test, from one index on
+pub length-filter-left_of : (p : Rank → Bool) (ranks : List Rank) (left : List Bool) (i : ℕ) (d : Rank)
+    → i < length ranks → i < length left → length (filter p (left_of (drop i ranks) (drop i left)))
+    ≡ cond (get_or left i false && p (get_or ranks i d)) 1 0
+    + length (filter p (left_of (drop (suc i) ranks) (drop (suc i) left)))
+length-filter-left_of p ranks left i d h k =
+    ap (λ l. length (filter p l)) (left_of-drop ranks left i d h k)
+    ∙ length-filter-head p (get_or ranks i d) (get_or left i false) (left_of (drop (suc i) ranks) (drop (suc i) left))
 
 -- the index of the first mark, or how many marks there are
 abbrev pub first_mark : List Bool → ℕ

@@ -1,6 +1,6 @@
 -- Each key is a strict order, so some rank stays, and by the addresses one.
 use Rattle.std.proofs.Common.{◌≡◌, refl, sym, ap, ◌∙◌, ℕ, ◌⊎◌, inl, inr, Bool, true, false, List, [], ◌∷◌, filter, fold}
-use Rattle.std.proofs.Common.{not, ◌&&◌, ◌==◌, nat_lt, arith}
+use Rattle.std.proofs.Common.{length, ◌≤◌, not, ◌&&◌, ◌==◌, nat_lt, arith}
 use Rattle.std.specs.List.{list_any}
 use Rattle.std.proofs.lemmas.Bool.{cases_Bool, and_parts, ltb-true, ltb-false, lt-ltb, le-ltb, eqb-true, eq-eqb}
 use Rattle.std.proofs.lemmas.Bool.{not-true}
@@ -31,6 +31,12 @@ is_better-irreflexive Kind r = lt-irreflexive r.kind
 is_better-irreflexive Cost r = lt-irreflexive r.cost
 is_better-irreflexive Id r = lt-irreflexive r.id
 is_better-irreflexive Address r = lt-irreflexive r.address
+
+-- of a list of at most one rank, all are unbeaten by any key
+pub unbeaten-alone : (ranks : List Rank) (key : Key) → length ranks ≤ 1 → unbeaten ranks key ≡ ranks
+unbeaten-alone [] key h = refl
+unbeaten-alone (r ∷ []) key h = rw (is_better-irreflexive key r) refl
+unbeaten-alone (r ∷ s ∷ ranks) key h = absurd (omega arith)
 
 med-transitive : (a b c : Rank) → is_better Med a b ≡ true → is_better Med b c ≡ true → is_better Med a c ≡ true
 med-transitive a b c x y =

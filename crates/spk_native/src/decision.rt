@@ -129,15 +129,22 @@ fn is_beaten(key: Key, ranks: &[Rank], left: &[bool], rank: &Rank) -> bool
     false
 }
 
-// Of the ranks that are left, keeps those than which no other one left is better by a key.
-fn keep_unbeaten(key: Key, ranks: &[Rank], left: &mut [bool; MAX_CANDIDATES])
+// Of the ranks that are left, keeps those than which no other one left is better by a key, and returns how many.
+fn keep_unbeaten(key: Key, ranks: &[Rank], left: &mut [bool; MAX_CANDIDATES]) -> usize
     requires { length ranks.now ≤ MAX_CANDIDATES }
-    ensures { left_of ranks.now left.new ≡ unbeaten (left_of ranks.now left.old) key }
+    ensures kept { left_of ranks.now left.new ≡ unbeaten (left_of ranks.now left.old) key }
+    ensures count { result ≡ length (left_of ranks.now left.new) }
 {
     let before = *left;
+    let mut count = 0;
     for (i, rank) in ranks.iter().enumerate() {
-        left[i] = before[i] && !is_beaten(key, ranks, &before, rank);
+        let stays = before[i] && !is_beaten(key, ranks, &before, rank);
+        left[i] = stays;
+        if stays {
+            count += 1;
+        }
     }
+    count
 }
 
 // The index of the first that is left.
@@ -158,8 +165,11 @@ pub fn survivor(ranks: &[Rank]) -> usize
     ensures alone { (r : Rank) → survivors ranks.now ≡ slice_index_or ranks.now result r ∷ [] }
 {
     let mut left = [true; MAX_CANDIDATES];
+    let mut count = ranks.len();
     for key in KEYS {
-        keep_unbeaten(key, ranks, &mut left);
+        if count > 1 {
+            count = keep_unbeaten(key, ranks, &mut left);
+        }
     }
     first_left(&left).unwrap_or(0)
 }
